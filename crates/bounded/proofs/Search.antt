@@ -1,0 +1,161 @@
+-- The laws of bounded searches: what an answer tells of each number below the bound, and how a loop that has searched below i goes on.
+-- Assumes nothing.
+use Prim.Native.Nat.{ℕ, zero, suc, _+_, _≤_, _<_}
+use mathlib.Core.Path.{_≡_, refl, sym, ap, _∙_, subst}
+use mathlib.Core.Bool.{Bool, true, false, not, _||_, _&&_, or-true, or-false}
+use mathlib.Core.Option.{Option, none, some}
+use mathlib.Core.Logic.{_⊎_, inl, inr, ⊎-elim}
+use native.Mathlib.Nat.{eq-or-lt-of-le, le-of-suc-le-suc, not-suc-le-zero, lt-suc-self, le-step}
+use native.Mathlib.Numerals.{add-one}
+use native.Mathlib.Omega.{arith}
+use lib.Dec.{T}
+use Rattle.bounded.specs.Search.{any, all, or-else, first}
+
+-- ---- tests
+
+pub true-not-false : {b : Bool} → b ≡ true → b ≡ false → ⊥
+true-not-false p q = let z : _≡_ {A = ℕ} 0 1 = cc in omega arith
+
+pub true-or-false : (b : Bool) → (b ≡ true) ⊎ (b ≡ false)
+true-or-false true = inl refl
+true-or-false false = inr refl
+
+-- A test that cannot be true is false, and one that cannot be false is true.
+pub is-false : (b : Bool) → (b ≡ true → ⊥) → b ≡ false
+is-false true h = absurd (h refl)
+is-false false h = refl
+
+pub is-true : (b : Bool) → (b ≡ false → ⊥) → b ≡ true
+is-true true h = refl
+is-true false h = absurd (h refl)
+
+pub passed : (b : Bool) → T b → b ≡ true
+passed true h = refl
+passed false h = absurd h
+
+pub passes : {b : Bool} → b ≡ true → T b
+passes e = subst T (sym e) tt
+
+pub or-left : (a b : Bool) → (a || b) ≡ false → a ≡ false
+or-left true b e = e
+or-left false b e = refl
+
+pub or-right : (a b : Bool) → (a || b) ≡ false → b ≡ false
+or-right true b e = absurd (true-not-false refl e)
+or-right false b e = e
+
+pub or-now : (a b : Bool) → a ≡ true → (a || b) ≡ true
+or-now a b e = ap (λ (x : Bool). x || b) e
+
+pub or-then : (a b : Bool) → a ≡ false → (a || b) ≡ b
+or-then a b e = ap (λ (x : Bool). x || b) e
+
+pub and-left : (a b : Bool) → (a && b) ≡ true → a ≡ true
+and-left true b e = refl
+and-left false b e = e
+
+pub and-right : (a b : Bool) → (a && b) ≡ true → b ≡ true
+and-right true b e = e
+and-right false b e = absurd (true-not-false e refl)
+
+-- A number below n + 1 is n or below n.
+last-or-below : {i n : ℕ} → i < suc n → (i ≡ n) ⊎ (i < n)
+last-or-below h = eq-or-lt-of-le (le-of-suc-le-suc h)
+
+-- ---- any
+
+module _ (f : ℕ → Bool) where
+  -- the loop's step: not below i, and not at i
+  pub any-more : (i : ℕ) → any i f ≡ false → f i ≡ false → any (i + 1) f ≡ false
+  unfolding any
+  any-more i p q = rw (add-one i) (rw p q)
+
+  pub any-at : (n i : ℕ) → i < n → f i ≡ true → any n f ≡ true
+  unfolding any
+  any-at zero i h e = absurd (not-suc-le-zero h)
+  any-at (suc n) i h e =
+      ⊎-elim
+      (λ q. ap (λ (b : Bool). any n f || b) (subst (λ (k : ℕ). f k ≡ true) q e) ∙ or-true (any n f))
+      (λ l. ap (λ (b : Bool). b || f n) (any-at n i l e))
+      (last-or-below h)
+
+  pub any-none : (n : ℕ) → any n f ≡ false → (i : ℕ) → i < n → f i ≡ false
+  any-none n e i h = is-false (f i) (λ t. true-not-false (any-at n i h t) e)
+
+-- ---- all
+
+module _ (f : ℕ → Bool) where
+  pub all-intro : (n : ℕ) → ((i : ℕ) → i < n → f i ≡ true) → all n f ≡ true
+  unfolding all
+  all-intro zero h = refl
+  all-intro (suc n) h = rw (all-intro n (λ i l. h i (le-step l))) (h n (lt-suc-self n))
+
+  pub all-at : (n : ℕ) → all n f ≡ true → (i : ℕ) → i < n → f i ≡ true
+  unfolding all
+  all-at zero e i h = absurd (not-suc-le-zero h)
+  all-at (suc n) e i h =
+      ⊎-elim
+      (λ q. subst (λ (k : ℕ). f k ≡ true) (sym q) (and-right (all n f) (f n) e))
+      (λ l. all-at n (and-left (all n f) (f n) e) i l)
+      (last-or-below h)
+
+-- ---- first
+
+-- a is found at i, and nothing before.
+pub record FoundAt {A : Type 0} (n : ℕ) (f : ℕ → Option A) (a : A) : Type 0 where
+  pub at : ℕ
+  pub below : at < n
+  pub found : f at ≡ some a
+  pub before : (j : ℕ) → j < at → f j ≡ none
+
+else-none : {A : Type 0} (a b : Option A) → or-else a b ≡ none → (a ≡ none) × (b ≡ none)
+unfolding or-else
+else-none none b e = (refl, e)
+else-none (some a) b e = absurd (let z : _≡_ {A = ℕ} 0 1 = cc in omega arith)
+
+module _ {A : Type 0} (f : ℕ → Option A) where
+  -- the loop's step: nothing below i, and nothing at i
+  pub first-more : (i : ℕ) → first i f ≡ none → f i ≡ none → first (i + 1) f ≡ none
+  unfolding first or-else
+  first-more i p q = rw (add-one i) (rw p q)
+
+  pub first-none : (n : ℕ) → first n f ≡ none → (i : ℕ) → i < n → f i ≡ none
+  unfolding first
+  first-none zero e i h = absurd (not-suc-le-zero h)
+  first-none (suc n) e i h =
+      let both = else-none (first n f) (f n) e in
+      ⊎-elim (λ q. subst (λ (k : ℕ). f k ≡ none) (sym q) (both .1)) (λ l. first-none n (both .0) i l) (last-or-below h)
+
+  pub first-nothing : (n : ℕ) → ((i : ℕ) → i < n → f i ≡ none) → first n f ≡ none
+  unfolding first or-else
+  first-nothing zero h = refl
+  first-nothing (suc n) h = rw (first-nothing n (λ i l. h i (le-step l))) (h n (lt-suc-self n))
+
+  pub first-found : (n : ℕ) (a : A) → first n f ≡ some a → FoundAt n f a
+  unfolding first or-else
+  first-found zero a e = absurd (let z : _≡_ {A = ℕ} 0 1 = cc in omega arith)
+  first-found (suc n) a e = go (first n f) refl (first-found n a)
+    where
+      go : (o : Option A) → first n f ≡ o → (first n f ≡ some a → FoundAt n f a) → FoundAt (suc n) f a
+      go none q rest = record { at = n; below = lt-suc-self n; found = sym (ap (λ (o : Option A). or-else o (f n)) q) ∙ e; before = first-none n q }
+      go (some x) q rest =
+          let w = rest (q ∙ sym (ap (λ (o : Option A). or-else o (f n)) q) ∙ e) in
+          record { at = w .at; below = le-step (w .below); found = w .found; before = w .before }
+
+  pub first-at : (n : ℕ) (a : A) → FoundAt n f a → first n f ≡ some a
+  unfolding first or-else
+  first-at zero a w = absurd (not-suc-le-zero (w .below))
+  first-at (suc n) a w =
+      ⊎-elim
+      (λ q. ap (λ (o : Option A). or-else o (f n)) (first-nothing n (λ j l. w .before j (subst (λ (k : ℕ). j < k) (sym q) l)))
+      ∙ subst (λ (k : ℕ). f k ≡ some a) q (w .found))
+      (λ l. ap (λ (o : Option A). or-else o (f n)) (first-at n a (record { at = w .at; below = l; found = w .found; before = w .before })))
+      (last-or-below (w .below))
+
+-- ---- a loop that searches, written as its answer: found at i, or i has come to the bound
+module _ (f : ℕ → Bool) where
+  pub scan-hit : (n i : ℕ) → i < n → f i ≡ true → true ≡ any n f
+  scan-hit n i h e = sym (any-at f n i h e)
+
+  pub scan-done : (n i : ℕ) → i ≡ n → any i f ≡ false → false ≡ any n f
+  scan-done n i q e = sym (subst (λ (k : ℕ). any k f ≡ false) q e)

@@ -1,0 +1,26 @@
+-- Searches over the numbers below a bound. They compute, try 0, 1, 2, .. in that order, and a loop that has tried the numbers below i has
+-- computed exactly the search below i.
+use Prim.Native.Nat.{ℕ, zero, suc}
+use mathlib.Core.Bool.{Bool, true, false, _||_, _&&_}
+use mathlib.Core.Option.{Option, none, some}
+
+-- Some number below n passes the test.
+unfoldable pub any : ℕ → (ℕ → Bool) → Bool
+any zero test = false
+any (suc n) test = any n test || test n
+
+-- Every number below n passes the test.
+unfoldable pub all : ℕ → (ℕ → Bool) → Bool
+all zero test = true
+all (suc n) test = all n test && test n
+
+-- The first answer, or else the second.
+unfoldable pub or-else {ℓ} : {A : Type ℓ} → Option A → Option A → Option A
+or-else none b = b
+or-else (some a) b = some a
+
+-- What is found at the first number below n where anything is found.
+unfoldable pub first {ℓ} : {A : Type ℓ} → ℕ → (ℕ → Option A) → Option A
+unfolding or-else
+first zero find = none
+first (suc n) find = or-else (first n find) (find n)

@@ -1,0 +1,1 @@
+// Searches below a bound: definitions and laws only (specs/, proofs/).

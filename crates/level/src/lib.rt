@@ -1,0 +1,47 @@
+// The level byte (document 01, "Levels"). Its limits and its functions belong to the type.
+ghost use mathlib.Core.Path.{_≡_};
+ghost use Prim.Native.Nat.{_<_};
+ghost use Rattle.level.specs.Level.{rank, compartments, at-or-below, low};
+
+pub struct Level {
+    pub byte: u8,
+}
+
+impl Level {
+    pub const RANKS: u8 = 4;
+
+    pub const COMPARTMENTS: u8 = 6;
+
+    pub fn rank(level: u8) -> u8
+        ensures { λ r. ⌜ r ≡ rank level ⌝ }
+    {
+        level / 64
+    }
+
+    pub fn compartments(level: u8) -> u8
+        ensures { λ r. ⌜ r ≡ compartments level ⌝ }
+    {
+        level % 64
+    }
+
+    // a is at or below b: each compartment of a that b has too is all of a's.
+    pub fn at_or_below(a: u8, b: u8) -> bool
+        ensures { λ r. ⌜ r ≡ at-or-below a b ⌝ }
+    {
+        let own = Level::compartments(a);
+        let common = own & Level::compartments(b);
+        if Level::rank(b) < Level::rank(a) {
+            return false;
+        }
+        if common == own {
+            return true;
+        }
+        false
+    }
+
+    pub fn is_low(observer: u8, level: u8) -> bool
+        ensures { λ r. ⌜ r ≡ low observer level ⌝ }
+    {
+        Level::at_or_below(level, observer)
+    }
+}

@@ -1,0 +1,3 @@
+pub mod Silent
+pub mod Traces
+pub mod Noninterference

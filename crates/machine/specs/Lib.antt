@@ -1,0 +1,6 @@
+pub mod Machine
+pub mod Roles
+pub mod Silent
+pub mod Rules
+pub mod Traces
+pub mod Noninterference

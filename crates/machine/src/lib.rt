@@ -1,0 +1,1 @@
+// Event machines: definitions and theorems only (specs/, proofs/).

@@ -1,0 +1,9 @@
+pub mod Fields
+pub mod Accepted
+pub mod Rejections
+pub mod Rising
+pub mod Ranges
+pub mod Places
+pub mod LayoutLaws
+pub mod ReadBack
+pub mod Extensional

@@ -1,0 +1,71 @@
+-- The place of an event and its identifier determine each other, and what the machine has under an identifier stands at its place.
+-- Assumes nothing.
+use Prim.Native.Nat.{ℕ, _<_}
+use mathlib.Core.Path.{_≡_, refl, subst}
+use mathlib.Core.Logic.{_↔_}
+use mathlib.Core.List.{List}
+use mathlib.Core.Option.{Option, none, some}
+use native.Mathlib.Decide.{ℕ-discrete}
+use native.Mathlib.Omega.{arith}
+use borrow.Author.Tests.{eq-eqb, ne-eqb}
+use lib.Dec.{T}
+use Rattle.bounded.proofs.Search.{first-found, first-at}
+use Rattle.machine.specs.Machine.{Kind, absent, event}
+use Rattle.words.specs.Sets.{bit}
+use Rattle.part.specs.Record.{events, identifier, event-kind, level, row}
+use Rattle.part.specs.Machine.{kind-of, at-place, place, event-of, Leads}
+use Rattle.part.specs.Theorems.{Places}
+use Rattle.part.proofs.Ranges.{ranges}
+
+module _ (b : List ℕ) (e i : ℕ) where
+  at-same : identifier b i ≡ e → at-place b e i ≡ some i
+  unfolding at-place
+  at-same q = rw (eq-eqb (identifier b i) e q, at-place)
+
+  at-other : (identifier b i ≡ e → ⊥) → at-place b e i ≡ none
+  unfolding at-place
+  at-other n = rw (ne-eqb (identifier b i) e n, at-place)
+
+  at-some : (j : ℕ) → at-place b e i ≡ some j → (i ≡ j) × (identifier b i ≡ e)
+  at-some j p =
+      elim (ℕ-discrete (identifier b i) e)
+      [ yes q ↦ (let s = at-same q in cc, q) | no n ↦ absurd (let s = at-other n in let z : _≡_ {A = ℕ} 0 1 = cc in omega arith) ]
+
+pub places : Places
+unfolding place
+places b a = record {
+  found = λ i h. first-at (at-place b (identifier b i)) (events b) i (record {
+    at = i;
+    below = h;
+    found = at-same b (identifier b i) i refl;
+    before = λ j l. at-other b (identifier b i) j (λ q. omega (arith, ranges b a .identifiers-rise j i l h));
+  });
+  stands = λ e i p.
+      let w = first-found (at-place b e) (events b) i p in
+      let s = at-some b e (w .at) i (w .found) in
+      (subst (λ (j : ℕ). j < events b) (s .0) (w .below), subst (λ (j : ℕ). identifier b j ≡ e) (s .0) (s .1));
+}
+
+module _ (b : List ℕ) (e : ℕ) where
+  pub event-none : place b e ≡ none → event-of b e ≡ absent
+  unfolding event-of
+  event-none p = rw (p, event-of)
+
+  pub event-at : (i : ℕ) → place b e ≡ some i → event-of b e ≡ event (kind-of (event-kind b i)) (level b i)
+  unfolding event-of
+  event-at i p = rw (p, event-of)
+
+  -- an event that is there has a place
+  pub event-placed : (k : Kind) (l : ℕ) → event-of b e ≡ event k l → (i : ℕ) × (place b e ≡ some i)
+  event-placed k l q = go (place b e) refl
+    where
+      go : (o : Option ℕ) → place b e ≡ o → (i : ℕ) × (place b e ≡ some i)
+      go none p = absurd (let n = event-none p in let z : _≡_ {A = ℕ} 0 1 = cc in omega arith)
+      go (some i) p = (i, p)
+
+  -- it leads where its row at that place says
+  pub leads-at : (i s t : ℕ) → place b e ≡ some i → Leads b e s t ↔ T (bit (row b i s) t)
+  leads-at i s t p = (
+    λ l. let q : l .at ≡ i = cc (l .placed) in subst (λ (j : ℕ). T (bit (row b j s) t)) q (l .set),
+    λ m. record { at = i; placed = p; set = m },
+  )

@@ -1,0 +1,103 @@
+-- The fields of an accepted record lie in their ranges. Assumes nothing.
+use Prim.Native.Nat.{ℕ, zero, suc, _+_, _-_, _*_, _^_, _≤_, _<_}
+use mathlib.Core.Path.{_≡_}
+use mathlib.Core.Bool.{false}
+use mathlib.Core.List.{List}
+use native.Mathlib.Numerals.{add-one}
+use native.Mathlib.Decide.{decLe, decLt}
+use native.Mathlib.Omega.{arith}
+use lib.ListN.{length}
+use lib.Dec.{T, leb, ltb}
+use borrow.Author.Tests.{leb-false, ltb-false, eqb-true, not-false}
+use Rattle.bounded.proofs.Search.{or-left, or-right, any-none, true-not-false, passed}
+use Rattle.words.specs.Sets.{bit, exceeds}
+use Rattle.words.proofs.Sets.{within-members}
+use Rattle.part.specs.Limits.{max-states, max-events, max-event-kind}
+use Rattle.part.specs.Record.{states, events, class, classes-below, identifier, event-kind, row, Framed}
+use Rattle.part.specs.Rejections.{Accepted, misnumbered, skips-at, misordered, falling, falls-at, unknown-kind, unknown-at, stray-bit, row-strays, strays-at}
+use Rattle.part.specs.Machine.{start-below}
+use Rattle.part.specs.Theorems.{Ranges}
+use Rattle.part.proofs.Accepted.{not-too-short, not-wrong-length, not-out-of-range, not-wrong-size, not-misnumbered, not-misordered, not-stray}
+use Rattle.part.proofs.Rejections.{framed}
+use Rattle.part.proofs.Rising.{Rises, rises}
+
+-- ---- the number of classes so far
+
+module _ (b : List ℕ) where
+  pub classes-monotone : (m n : ℕ) → m ≤ n → classes-below b m ≤ classes-below b n
+  unfolding classes-below
+  classes-monotone m zero h = let e : m ≡ 0 = omega arith in rw e (omega arith)
+  classes-monotone m (suc n) h =
+      elim (decLe m n) [ yes l ↦ let r = classes-monotone m n l in omega arith | no l ↦ let e : m ≡ suc n = omega arith in rw e (omega arith) ]
+
+  pub class-counted : (s n : ℕ) → s < n → class b s < classes-below b n
+  unfolding classes-below
+  class-counted s n h = let r = classes-monotone (suc s) n h in omega arith
+
+  -- the largest class before is the class of some state
+  pub largest-class : (s : ℕ) → (r : ℕ) × (r ≤ s) × (classes-below b (suc s) ≡ suc (class b r))
+  unfolding classes-below
+  largest-class zero = (0, omega arith, omega arith)
+  largest-class (suc s) =
+      let before = largest-class s in
+      elim (decLe (classes-below b (suc s)) (suc (class b (suc s))))
+      [ yes l ↦ (suc s, omega arith, omega arith) | no l ↦ (before .0, omega arith, omega arith) ]
+
+module _ (b : List ℕ) (a : Accepted b) where
+  -- the record is whole, and its counts are in range
+  pub frame : Framed b
+  frame = framed b (not-too-short b a) (not-wrong-length b a) (not-out-of-range b a) (not-wrong-size b a)
+
+  -- ---- the classes
+
+  -- a state's class is one of those before it, or the next
+  pub class-step : (s : ℕ) → s < states b → class b s ≤ classes-below b s
+  unfolding misnumbered skips-at
+  class-step s h = ltb-false _ _ (any-none _ (states b) (not-misnumbered b a) s h)
+
+  pub classes-few : (n : ℕ) → n ≤ states b → classes-below b n ≤ n
+  unfolding classes-below
+  classes-few zero h = omega arith
+  classes-few (suc n) h = let before = classes-few n (omega arith) in let step = class-step n h in omega arith
+
+  -- ---- the events
+
+  identifiers-rise : Rises (identifier b) (events b)
+  unfolding misordered falling falls-at
+  identifiers-rise =
+      let adjacent = any-none (falls-at b) (events b - 1) (or-left (falling b) (unknown-kind b) (not-misordered b a)) in
+      rises (identifier b) (events b) (λ i h. rw add-one at (leb-false (identifier b (i + 1)) (identifier b i) (adjacent i (omega arith))))
+
+  kinds : (i : ℕ) → i < events b → event-kind b i ≤ max-event-kind
+  unfolding misordered unknown-kind unknown-at
+  kinds i h = ltb-false _ _ (any-none (unknown-at b) (events b) (or-right (falling b) (unknown-kind b) (not-misordered b a)) i h)
+
+  -- ---- the rows
+
+  pub row-within : (i s : ℕ) → i < events b → s < states b → exceeds (states b) (row b i s) ≡ false
+  unfolding stray-bit row-strays strays-at
+  row-within i s h l = any-none _ (states b) (any-none _ (events b) (not-stray b a) i h) s l
+
+  pub row-lt : (i s : ℕ) → i < events b → s < states b → row b i s < 2 ^ states b
+  unfolding exceeds
+  row-lt i s h l = leb-false _ _ (row-within i s h l)
+
+  row-members : (i s t : ℕ) → i < events b → s < states b → T (bit (row b i s) t) → t < states b
+  row-members i s t h l m =
+      elim (decLt t (states b))
+      [ yes n ↦ n | no n ↦ absurd (true-not-false (passed _ m) (within-members (states b) (row b i s) (row-within i s h l) t (omega arith))) ]
+
+pub ranges : Ranges
+ranges b a = record {
+  one-state = frame b a .one-state;
+  most-states = frame b a .most-states;
+  start-is-state = start-below b a;
+  most-events = frame b a .most-events;
+  whole = frame b a .whole;
+  class-below = λ s h. omega (arith, class-step b a s h, classes-few b a s (omega arith));
+  class-first = omega (arith, class-step b a 0 (frame b a .one-state), classes-few b a 0 (omega arith));
+  class-next = λ s h. let r = largest-class b s in (r .0, r .1, omega (arith, class-step b a (suc s) h));
+  identifiers-rise = identifiers-rise b a;
+  kinds = kinds b a;
+  row-members = row-members b a;
+}

@@ -1,0 +1,48 @@
+use Prim.Native.Nat.{_≤_, _-_}
+use mathlib.Core.Path.{_≡_, refl}
+use Rattle.bounded.specs.Search.{any}
+use Rattle.bounded.proofs.Search.{any-more, scan-hit, scan-done}
+use Rattle.part.specs.Rejections.{falls-at, falling}
+use mathlib.Core.Bool.{false}
+use native.Mathlib.Omega.{arith}
+use Rattle.part.proofs.rejection.falling.Statement.{statement}
+use Rattle.part.proofs.rejection.falling.Tie as tie
+
+abbrev Inv-loop : tie.InvT-loop
+Inv-loop b m i₀ i = (i ≤ m - 1) × (any i (falls-at b) ≡ false)
+
+abbrev μ-loop : tie.MeasureT-loop
+μ-loop b m i₀ i = m - i
+
+events-requires : tie.Need-events-requires Inv-loop μ-loop
+events-requires c κs = omega arith
+
+loop-holds : tie.Need-loop-holds Inv-loop μ-loop
+unfolding any
+loop-holds c = (omega arith, refl)
+
+add-loop : tie.Need-add-loop Inv-loop μ-loop
+add-loop c = omega arith
+
+falls-at-requires : tie.Need-falls-at-requires Inv-loop μ-loop
+falls-at-requires c κs = (c .before .before .before .before .pre, omega arith)
+
+returns : tie.Need-returns Inv-loop μ-loop
+unfolding falling
+returns c = scan-hit (falls-at _) _ (c .before .before .before .loop .i) (omega arith) (let test = c .before .falls-at .ensures in let went = c .if1 .taken in cc)
+
+add-i : tie.Need-add-i Inv-loop μ-loop
+add-i c = omega arith
+
+loop-less : tie.Need-loop-less Inv-loop μ-loop
+loop-less c = omega arith
+
+loop-again : tie.Need-loop-again Inv-loop μ-loop
+loop-again c = (omega arith, any-more (falls-at _) (c .before .before .before .loop .i) (c .before .before .before .loop .inv .1) (let test = c .before .falls-at .ensures in let went = c .if1 .left in cc))
+
+returns-2 : tie.Need-returns-2 Inv-loop μ-loop
+unfolding falling
+returns-2 c = scan-done (falls-at _) _ _ (omega arith) (c .before .loop .inv .1)
+
+pub falling-spec : {M : Type 1} → statement M
+falling-spec = tie.close (tie.spec Inv-loop μ-loop events-requires loop-holds add-loop falls-at-requires returns add-i loop-less loop-again returns-2)

@@ -1,0 +1,142 @@
+-- Records on which the rejections and the machine are computed: P and Z are accepted, and each damaged record has its number. Some break
+-- two conditions, so that the order counts; some stand at a limit.
+use Prim.Native.Nat.{ℕ}
+use mathlib.Core.Path.{_≡_, refl}
+use mathlib.Core.Bool.{Bool, true, false, _&&_}
+use mathlib.Core.List.{List, [], _∷_, _++_}
+use mathlib.Core.Option.{Option, none, some}
+use lib.Dec.{T, eqb}
+use lib.ListN.{take, set}
+use Rattle.bounded.specs.Search.{any, first, or-else}
+use Rattle.machine.specs.Machine.{input, output, Event, absent, event}
+use Rattle.words.specs.Sets.{exceeds}
+use Rattle.words.specs.LittleEndian.{number, digits, each}
+use Rattle.part.specs.Record.{
+  body-length,
+  kind,
+  states,
+  start,
+  events,
+  class,
+  classes-below,
+  entry-at,
+  identifier,
+  event-kind,
+  level,
+  row-at,
+  row,
+  body-size,
+}
+use Rattle.part.specs.Rejections.{
+  too-short,
+  wrong-length,
+  wrong-kind,
+  out-of-range,
+  wrong-size,
+  skips-at,
+  misnumbered,
+  falls-at,
+  falling,
+  unknown-at,
+  unknown-kind,
+  misordered,
+  strays-at,
+  row-strays,
+  stray-bit,
+  first-of,
+  rejection,
+}
+use Rattle.part.specs.Layout.{Fields, body, size, layout}
+use Rattle.part.specs.Machine.{kind-of, at-place, place, event-of}
+use Rattle.part.specs.Samples.{P, Z}
+
+-- A record of n states, all of one class, with m inputs 0, 1, .. of level 0 that stay where they are.
+abbrev staying : ℕ → ℕ → List ℕ
+staying n m = layout (record {
+  observer = 0;
+  states = n;
+  start = 0;
+  events = m;
+  class = λ s. 0;
+  identifier = λ i. i;
+  event-kind = λ i. 0;
+  level = λ i. 0;
+  row = λ i s. 1;
+})
+
+-- The number that a record is rejected with; 0 where it is accepted.
+unfoldable said : List ℕ → ℕ
+unfolding rejection first-of too-short wrong-length wrong-kind out-of-range wrong-size misnumbered skips-at misordered falling falls-at unknown-kind unknown-at stray-bit row-strays strays-at body-length kind states start events class classes-below entry-at identifier event-kind level row-at row body-size any exceeds number digits each layout body size
+said b = elim (rejection b) [ none ↦ 0 | some k ↦ k ]
+
+-- A number, and a record that is rejected with it.
+record Line : Type 0 where
+  number : ℕ
+  bytes : List ℕ
+
+infix 90 _is_
+abbrev _is_ : List ℕ → ℕ → Line
+b is k = record { number = k; bytes = b }
+
+all-said : List Line → Bool
+unfolding said
+all-said [] = true
+all-said (l ∷ ls) = eqb (said (l .bytes)) (l .number) && all-said ls
+
+abbrev table : List Line
+table =
+    -- accepted; 1 to 3
+    P is 0
+    ∷ Z is 0
+    ∷ [] is 1
+    ∷ take 5 P is 1
+    ∷ take 51 P is 2
+    ∷ (P ++ 0 ∷ []) is 2
+    ∷ set (set P 0 0x2F) 4 2 is 2
+    ∷ set P 4 2 is 3
+    ∷ set (set P 5 1) 7 0 is 3
+    -- 4: no body, n = 0, n = 65 though 5 holds too, the start at n, m = 33; the limits themselves; 5
+    ∷ (0 ∷ 0 ∷ 0 ∷ 0 ∷ 1 ∷ 0 ∷ []) is 4
+    ∷ set P 7 0 is 4
+    ∷ set P 7 65 is 4
+    ∷ staying 65 0 is 4
+    ∷ staying 64 0 is 0
+    ∷ set P 8 2 is 4
+    ∷ set P 8 1 is 0
+    ∷ staying 1 33 is 4
+    ∷ staying 1 32 is 0
+    ∷ set P 7 3 is 5
+    ∷ set (set P 7 3) 10 1 is 5
+    -- 6: state 0 not of class 0, a class skipped; 7: equal and falling identifiers, a kind of 3; 8: a bit at n; each before the next
+    ∷ set P 10 1 is 6
+    ∷ set P 11 2 is 6
+    ∷ set P 11 1 is 0
+    ∷ set P 16 1 is 7
+    ∷ set P 12 3 is 7
+    ∷ set P 14 3 is 7
+    ∷ set P 20 4 is 8
+    ∷ set P 51 0x80 is 8
+    ∷ set (set P 11 2) 12 2 is 6
+    ∷ set (set P 18 3) 20 4 is 7
+    ∷ []
+
+screened : T (all-said table)
+unfolding all-said
+screened = tt
+
+-- The events of P by their identifiers.
+event-in-P : ℕ → Event
+unfolding event-of place at-place first or-else identifier entry-at states events event-kind level kind-of number digits
+event-in-P e = event-of P e
+
+event-1 : event-in-P 1 ≡ event input 0x40
+unfolding event-in-P
+event-1 = refl
+
+event-2 : event-in-P 2 ≡ event output 0
+unfolding event-in-P
+event-2 = refl
+
+event-3 : event-in-P 3 ≡ absent
+unfolding event-in-P
+event-3 = refl

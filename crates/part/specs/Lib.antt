@@ -1,0 +1,10 @@
+pub mod Limits
+pub mod Record
+pub mod Rejections
+pub mod Answers
+pub mod Layout
+pub mod Machine
+pub mod Theorems
+pub mod Samples
+pub mod Examples
+pub mod Starred

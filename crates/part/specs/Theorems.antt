@@ -1,0 +1,55 @@
+-- What is proved of records, as statements. Their proofs stand in proofs/Theorems.antt under the same names.
+use Prim.Native.Nat.{ℕ, suc, _+_, _*_, _≤_, _<_}
+use mathlib.Core.Path.{_≡_}
+use mathlib.Core.Logic.{_↔_}
+use mathlib.Core.List.{List}
+use mathlib.Core.Option.{Option, some}
+use lib.ListN.{length}
+use lib.Dec.{T}
+use Rattle.words.specs.Sets.{bit}
+use Rattle.words.specs.LittleEndian.{Bytes}
+use Rattle.part.specs.Limits.{max-states, max-events, max-event-kind}
+use Rattle.part.specs.Record.{observer, states, start, events, class, identifier, event-kind, row}
+use Rattle.part.specs.Rejections.{Accepted}
+use Rattle.part.specs.Machine.{place, event-of, Leads}
+
+-- The fields of a record lie in their ranges.
+pub record InRange (b : List ℕ) : Type 0 where
+  pub one-state : 1 ≤ states b
+  pub most-states : states b ≤ max-states
+  pub start-is-state : start b < states b
+  pub most-events : events b ≤ max-events
+  pub whole : length b ≡ 10 + states b + 4 * events b + 8 * (events b * states b)
+  -- classes below n, numbered by first appearance: state 0 has class 0, each later one is at most one above some class before it
+  pub class-below : (s : ℕ) → s < states b → class b s < states b
+  pub class-first : class b 0 ≡ 0
+  pub class-next : (s : ℕ) → suc s < states b → (r : ℕ) × (r ≤ s) × (class b (suc s) ≤ suc (class b r))
+  pub identifiers-rise : (i j : ℕ) → i < j → j < events b → identifier b i < identifier b j
+  pub kinds : (i : ℕ) → i < events b → event-kind b i ≤ max-event-kind
+  pub row-members : (i s t : ℕ) → i < events b → s < states b → T (bit (row b i s) t) → t < states b
+
+-- Each event of an accepted record stands at one place, and is found there by its identifier.
+pub record Placed (b : List ℕ) : Type 0 where
+  pub found : (i : ℕ) → i < events b → place b (identifier b i) ≡ some i
+  pub stands : (e i : ℕ) → place b e ≡ some i → (i < events b) × (identifier b i ≡ e)
+
+-- Two records say the same: observer, states, start, grouping, events and steps (demand 2, last sentence).
+pub record Same (a b : List ℕ) : Type 0 where
+  pub observers : observer a ≡ observer b
+  pub counts : states a ≡ states b
+  pub starts : start a ≡ start b
+  pub classes : (s : ℕ) → s < states a → class a s ≡ class b s
+  pub event-maps : (e : ℕ) → event-of a e ≡ event-of b e
+  pub steps : (e s t : ℕ) → s < states a → t < states a → (Leads a e s t ↔ Leads b e s t)
+
+-- Accepted records lie in range.
+abbrev pub Ranges : Type 0
+Ranges = (b : List ℕ) → Accepted b → InRange b
+
+-- The place of an event in the record and its identifier determine each other.
+abbrev pub Places : Type 0
+Places = (b : List ℕ) → Accepted b → Placed b
+
+-- Two accepted records are equal exactly when they say the same.
+abbrev pub Extensionality : Type 0
+Extensionality = (a b : List ℕ) → Bytes a → Bytes b → Accepted a → Accepted b → (a ≡ b) ↔ Same a b

@@ -1,0 +1,19 @@
+// The answers about a record. specs/Answers.antt gives each its number.
+
+// Why a record is rejected.
+pub enum Rejection {
+    TooShort,
+    WrongLength,
+    WrongKind,
+    OutOfRange,
+    WrongSize,
+    Misnumbered,
+    Misordered,
+    StrayBit,
+}
+
+// What screening a record finds.
+pub enum Screening {
+    Accepted,
+    Rejected(Rejection),
+}

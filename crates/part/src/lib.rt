@@ -1,0 +1,9 @@
+// The part record (document 01, "The part record"): its limits, its fields, and the rejections 1 to 8.
+pub mod answer;
+mod field;
+mod rejection;
+
+pub use answer::Rejection;
+pub use answer::Screening;
+pub use field::Part;
+pub use rejection::screen;

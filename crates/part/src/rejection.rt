@@ -1,0 +1,219 @@
+// The rejections 1 to 8 of a record, in order (specs/Rejections.antt): one function for each condition, and the cascade.
+ghost use mathlib.Core.Path.{_≡_};
+ghost use Prim.Native.Nat.{_+_, _<_, max};
+ghost use mathlib.Core.Bool.{false};
+ghost use Rattle.part.specs.Record.{states, events, Framed};
+ghost use Rattle.part.specs.Rejections.{too-short, wrong-length, wrong-kind, out-of-range, wrong-size, misnumbered, falls-at, falling, unknown-at, unknown-kind, misordered, strays-at, row-strays, stray-bit, rejection};
+ghost use Rattle.part.specs.Answers.{says};
+use crate::answer::Rejection;
+use crate::answer::Screening;
+use crate::field::Part;
+use words::set;
+
+fn too_short(b: &[u8]) -> bool
+    ensures { λ r. ⌜ r ≡ too-short (now (b .entry)) ⌝ }
+{
+    b.len() < Part::HEADER
+}
+
+fn wrong_length(b: &[u8]) -> bool
+    requires { ⌜ too-short (now b) ≡ false ⌝ }
+    ensures { λ r. ⌜ r ≡ wrong-length (now (b .entry)) ⌝ }
+{
+    Part::body_length(b) != b.len() - Part::HEADER
+}
+
+fn wrong_kind(b: &[u8]) -> bool
+    requires { ⌜ too-short (now b) ≡ false ⌝ }
+    ensures { λ r. ⌜ r ≡ wrong-kind (now (b .entry)) ⌝ }
+{
+    Part::kind(b) != Part::KIND
+}
+
+fn out_of_range(b: &[u8]) -> bool
+    requires { ⌜ too-short (now b) ≡ false ⌝ }
+    requires { ⌜ wrong-length (now b) ≡ false ⌝ }
+    ensures { λ r. ⌜ r ≡ out-of-range (now (b .entry)) ⌝ }
+{
+    if b.len() < Part::HEADER + 4 {
+        return true;
+    }
+    let n = Part::states(b);
+    if n < 1 {
+        return true;
+    }
+    if Part::STATES < n {
+        return true;
+    }
+    if n <= Part::start(b) {
+        return true;
+    }
+    Part::EVENTS < Part::events(b)
+}
+
+fn wrong_size(b: &[u8]) -> bool
+    requires { ⌜ too-short (now b) ≡ false ⌝ }
+    requires { ⌜ wrong-length (now b) ≡ false ⌝ }
+    requires { ⌜ out-of-range (now b) ≡ false ⌝ }
+    ensures { λ r. ⌜ r ≡ wrong-size (now (b .entry)) ⌝ }
+{
+    let n = Part::states(b);
+    let m = Part::events(b);
+    Part::body_length(b) != 4 + n + 4 * m + 8 * (m * n)
+}
+
+// One above the largest class so far, with the class c.
+fn classes_with(count: usize, c: usize) -> usize
+    requires { ⌜ c < 256 ⌝ }
+    ensures { λ r. ⌜ r ≡ max count (c + 1) ⌝ }
+{
+    if count <= c {
+        return c + 1;
+    }
+    count
+}
+
+fn misnumbered(b: &[u8]) -> bool
+    requires { ⌜ Framed (now b) ⌝ }
+    ensures { λ r. ⌜ r ≡ misnumbered (now (b .entry)) ⌝ }
+{
+    let n = Part::states(b);
+    let mut count = 0;
+    let mut s = 0;
+    while s < n {
+        let c = Part::class(b, s);
+        if count < c {
+            return true;
+        }
+        count = classes_with(count, c);
+        s += 1;
+    }
+    false
+}
+
+fn falls_at(b: &[u8], i: usize) -> bool
+    requires { ⌜ Framed (now b) ⌝ }
+    requires { ⌜ i + 1 < events (now b) ⌝ }
+    ensures { λ r. ⌜ r ≡ falls-at (now (b .entry)) i ⌝ }
+{
+    Part::identifier(b, i + 1) <= Part::identifier(b, i)
+}
+
+fn falling(b: &[u8]) -> bool
+    requires { ⌜ Framed (now b) ⌝ }
+    ensures { λ r. ⌜ r ≡ falling (now (b .entry)) ⌝ }
+{
+    let m = Part::events(b);
+    let mut i = 0;
+    while i + 1 < m {
+        if falls_at(b, i) {
+            return true;
+        }
+        i += 1;
+    }
+    false
+}
+
+fn unknown_at(b: &[u8], i: usize) -> bool
+    requires { ⌜ Framed (now b) ⌝ }
+    requires { ⌜ i < events (now b) ⌝ }
+    ensures { λ r. ⌜ r ≡ unknown-at (now (b .entry)) i ⌝ }
+{
+    Part::EVENT_KIND < Part::event_kind(b, i)
+}
+
+fn unknown_kind(b: &[u8]) -> bool
+    requires { ⌜ Framed (now b) ⌝ }
+    ensures { λ r. ⌜ r ≡ unknown-kind (now (b .entry)) ⌝ }
+{
+    let m = Part::events(b);
+    let mut i = 0;
+    while i < m {
+        if unknown_at(b, i) {
+            return true;
+        }
+        i += 1;
+    }
+    false
+}
+
+fn misordered(b: &[u8]) -> bool
+    requires { ⌜ Framed (now b) ⌝ }
+    ensures { λ r. ⌜ r ≡ misordered (now (b .entry)) ⌝ }
+{
+    if falling(b) {
+        return true;
+    }
+    unknown_kind(b)
+}
+
+fn strays_at(b: &[u8], i: usize, s: usize) -> bool
+    requires { ⌜ Framed (now b) ⌝ }
+    requires { ⌜ i < events (now b) ⌝ }
+    requires { ⌜ s < states (now b) ⌝ }
+    ensures { λ r. ⌜ r ≡ strays-at (now (b .entry)) i s ⌝ }
+{
+    set::exceeds(Part::states(b), Part::row(b, i, s))
+}
+
+fn row_strays(b: &[u8], i: usize) -> bool
+    requires { ⌜ Framed (now b) ⌝ }
+    requires { ⌜ i < events (now b) ⌝ }
+    ensures { λ r. ⌜ r ≡ row-strays (now (b .entry)) i ⌝ }
+{
+    let n = Part::states(b);
+    let mut s = 0;
+    while s < n {
+        if strays_at(b, i, s) {
+            return true;
+        }
+        s += 1;
+    }
+    false
+}
+
+fn stray_bit(b: &[u8]) -> bool
+    requires { ⌜ Framed (now b) ⌝ }
+    ensures { λ r. ⌜ r ≡ stray-bit (now (b .entry)) ⌝ }
+{
+    let m = Part::events(b);
+    let mut i = 0;
+    while i < m {
+        if row_strays(b, i) {
+            return true;
+        }
+        i += 1;
+    }
+    false
+}
+
+// The first rejection that applies to the bytes, or none.
+pub fn screen(b: &[u8]) -> Screening
+    ensures { λ r. ⌜ says r ≡ rejection (now (b .entry)) ⌝ }
+{
+    if too_short(b) {
+        return Screening::Rejected(Rejection::TooShort);
+    }
+    if wrong_length(b) {
+        return Screening::Rejected(Rejection::WrongLength);
+    }
+    if wrong_kind(b) {
+        return Screening::Rejected(Rejection::WrongKind);
+    }
+    if out_of_range(b) {
+        return Screening::Rejected(Rejection::OutOfRange);
+    }
+    if wrong_size(b) {
+        return Screening::Rejected(Rejection::WrongSize);
+    }
+    if misnumbered(b) {
+        return Screening::Rejected(Rejection::Misnumbered);
+    }
+    if misordered(b) {
+        return Screening::Rejected(Rejection::Misordered);
+    }
+    if stray_bit(b) {
+        return Screening::Rejected(Rejection::StrayBit);
+    }
+    Screening::Accepted
+}
