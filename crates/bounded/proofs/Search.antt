@@ -50,6 +50,12 @@ or-now a b e = ap (λ (x : Bool). x || b) e
 pub or-then : (a b : Bool) → a ≡ false → (a || b) ≡ b
 or-then a b e = ap (λ (x : Bool). x || b) e
 
+pub and-now : (a b : Bool) → a ≡ true → (a && b) ≡ b
+and-now a b e = ap (λ (x : Bool). x && b) e
+
+pub and-never : (a b : Bool) → a ≡ false → (a && b) ≡ false
+and-never a b e = ap (λ (x : Bool). x && b) e
+
 pub and-left : (a b : Bool) → (a && b) ≡ true → a ≡ true
 and-left true b e = refl
 and-left false b e = e
@@ -58,6 +64,19 @@ pub and-right : (a b : Bool) → (a && b) ≡ true → b ≡ true
 and-right true b e = e
 and-right false b e = absurd (true-not-false e refl)
 
+-- "If a then b" as a test.
+pub imp-elim : (a b : Bool) → (not a || b) ≡ true → a ≡ true → b ≡ true
+imp-elim true b e t = e
+imp-elim false b e t = absurd (true-not-false t refl)
+
+pub imp-intro : (a b : Bool) → (a ≡ true → b ≡ true) → (not a || b) ≡ true
+imp-intro true b h = h refl
+imp-intro false b h = refl
+
+pub not-refuted : (a b : Bool) → (a ≡ true → b ≡ true) → (a && not b) ≡ false
+not-refuted true b h = ap not (h refl)
+not-refuted false b h = refl
+
 -- A number below n + 1 is n or below n.
 last-or-below : {i n : ℕ} → i < suc n → (i ≡ n) ⊎ (i < n)
 last-or-below h = eq-or-lt-of-le (le-of-suc-le-suc h)
@@ -65,6 +84,10 @@ last-or-below h = eq-or-lt-of-le (le-of-suc-le-suc h)
 -- ---- any
 
 module _ (f : ℕ → Bool) where
+  pub any-next : (i : ℕ) → any (i + 1) f ≡ (any i f || f i)
+  unfolding any
+  any-next i = rw (add-one i)
+
   -- the loop's step: not below i, and not at i
   pub any-more : (i : ℕ) → any i f ≡ false → f i ≡ false → any (i + 1) f ≡ false
   unfolding any
@@ -85,6 +108,10 @@ module _ (f : ℕ → Bool) where
 -- ---- all
 
 module _ (f : ℕ → Bool) where
+  pub all-next : (i : ℕ) → all (i + 1) f ≡ (all i f && f i)
+  unfolding all
+  all-next i = rw (add-one i)
+
   pub all-intro : (n : ℕ) → ((i : ℕ) → i < n → f i ≡ true) → all n f ≡ true
   unfolding all
   all-intro zero h = refl
@@ -159,3 +186,42 @@ module _ (f : ℕ → Bool) where
 
   pub scan-done : (n i : ℕ) → i ≡ n → any i f ≡ false → false ≡ any n f
   scan-done n i q e = sym (subst (λ (k : ℕ). any k f ≡ false) q e)
+
+-- ---- a loop that looks for the first: found at i, or i has come to the bound
+module _ {A : Type 0} (f : ℕ → Option A) where
+  pub first-hit : (n i : ℕ) (a : A) → i < n → first i f ≡ none → f i ≡ some a → first n f ≡ some a
+  first-hit n i a h e q = first-at f n a (record { at = i; below = h; found = q; before = first-none f i e })
+
+  pub first-done : (n i : ℕ) → i ≡ n → first i f ≡ none → first n f ≡ none
+  first-done n i q e = subst (λ (k : ℕ). first k f ≡ none) q e
+
+-- ---- searches compared: the same tests, and what a search that passed has found
+
+-- Two tests that pass together are equal.
+pub same-truth : (p q : Bool) → (p ≡ true → q ≡ true) → (q ≡ true → p ≡ true) → p ≡ q
+same-truth true q f g = sym (f refl)
+same-truth false q f g = sym (is-false q (λ e. true-not-false (g e) refl))
+
+pub any-found : (n : ℕ) (f : ℕ → Bool) → any n f ≡ true → (i : ℕ) × (i < n) × (f i ≡ true)
+unfolding any
+any-found zero f e = absurd (true-not-false e refl)
+any-found (suc n) f e =
+    ⊎-elim
+    (λ here. (n, lt-suc-self n, here))
+    (λ none-here. let w = any-found n f (sym (or-else-first (any n f) (f n) none-here) ∙ e) in (w .0, le-step (w .1), w .2))
+    (true-or-false (f n))
+  where
+    or-else-first : (p q : Bool) → q ≡ false → (p || q) ≡ p
+    or-else-first p q h = ap (λ (x : Bool). p || x) h ∙ or-false p
+
+pub any-same : (n : ℕ) (f g : ℕ → Bool) → ((i : ℕ) → i < n → f i ≡ g i) → any n f ≡ any n g
+any-same n f g h =
+    same-truth (any n f) (any n g)
+    (λ e. let w = any-found n f e in any-at g n (w .0) (w .1) (sym (h (w .0) (w .1)) ∙ w .2))
+    (λ e. let w = any-found n g e in any-at f n (w .0) (w .1) (h (w .0) (w .1) ∙ w .2))
+
+pub all-same : (n : ℕ) (f g : ℕ → Bool) → ((i : ℕ) → i < n → f i ≡ g i) → all n f ≡ all n g
+all-same n f g h =
+    same-truth (all n f) (all n g)
+    (λ e. all-intro g n (λ i l. sym (h i l) ∙ all-at f n e i l))
+    (λ e. all-intro f n (λ i l. h i l ∙ all-at g n e i l))

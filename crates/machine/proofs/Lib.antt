@@ -1,3 +1,4 @@
 pub mod Silent
 pub mod Traces
 pub mod Noninterference
+pub mod Hookup

@@ -24,7 +24,7 @@ role-high-input (high internal) h = absurd h
 pub test-as : (f : Role → Bool) {r x : Role} → r ≡ x → T (f x) → T (f r)
 test-as f q h = subst (λ (y : Role). T (f y)) (sym q) h
 
-missing-absent : (is-low : ℕ → Bool) (x : Event) → role-of is-low x ≡ missing → x ≡ absent
+pub missing-absent : (is-low : ℕ → Bool) (x : Event) → role-of is-low x ≡ missing → x ≡ absent
 unfolding role-of at-level
 missing-absent is-low absent q = refl
 missing-absent is-low (event k l) q = go (is-low l) q

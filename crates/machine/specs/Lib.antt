@@ -4,3 +4,4 @@ pub mod Silent
 pub mod Rules
 pub mod Traces
 pub mod Noninterference
+pub mod Hookup

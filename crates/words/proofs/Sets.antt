@@ -3,7 +3,7 @@ use Prim.Native.Nat.{ℕ, zero, suc, _+_, _-_, _*_, _/_, _%_, _^_, _≤_, _<_, m
 use mathlib.Core.Path.{_≡_, refl, sym, ap, _∙_, subst}
 use mathlib.Core.Bool.{Bool, true, false, not, _||_, _&&_}
 use mathlib.Core.Logic.{_↔_}
-use native.Mathlib.Nat.{div-one, div-eq-of-lt, mod-lt, lt-of-lt-of-le, pow-zero, pow-suc, zero-div, mod-eq-of-lt, one-mul, le-div-iff-mul-le, lt-of-not-le}
+use native.Mathlib.Nat.{div-one, div-eq-of-lt, mod-lt, lt-of-lt-of-le, pow-zero, pow-suc, zero-div, mod-eq-of-lt, one-mul, le-div-iff-mul-le, lt-of-not-le, ne-of-lt}
 use native.Mathlib.Numerals.{one-add, add-one}
 use native.Mathlib.Decide.{decLe, decLt}
 use native.Mathlib.Omega.{arith}
@@ -14,7 +14,12 @@ use lib.Pow.{shr-shr, shr-lt, pow-mono, pow-pos, pow-lt, field, mod-pow-add, mod
 use lib.Bits.{bitAnd, bitOr, and-shr, or-shr, and-step, or-step, and-lt, or-lt}
 use lib.Count.{trailingZeros, under}
 use borrow.Author.Tests.{eqb-true, eq-eqb, leb-false, lt-leb, le-leb}
-use Rattle.words.specs.Sets.{bit, union, intersection, single, lowest, without, exceeds}
+use mathlib.Core.List.{List}
+use lib.ListN.{length, getD, set}
+use lib.Seq.{getD-set-same, getD-set-other}
+use Rattle.bounded.specs.Search.{any}
+use Rattle.bounded.proofs.Search.{any-next}
+use Rattle.words.specs.Sets.{Represents, Rows, gathered, bit, union, intersection, single, lowest, without, exceeds}
 
 -- ---- a bit at a time
 
@@ -32,6 +37,16 @@ bit-next x t = ap (λ (y : ℕ). eqb (y % 2) 1) (ap (λ (k : ℕ). x / 2 ^ k) (s
 pub bit-zero : (t : ℕ) → bit 0 t ≡ false
 unfolding bit
 bit-zero t = ap (λ (y : ℕ). eqb (y % 2) 1) (zero-div (2 ^ t))
+
+-- Every number below k is a member of 2 ^ k - 1.
+pub bit-full : (k t : ℕ) → t < k → bit (2 ^ k - 1) t ≡ true
+bit-full zero t h = absurd (omega arith)
+bit-full (suc k) zero h =
+    let odd : (2 ^ suc k - 1) % 2 ≡ 1 = omega (arith, pow-pos k) in
+    bit-first (2 ^ suc k - 1) ∙ ap (λ (z : ℕ). eqb z 1) odd
+bit-full (suc k) (suc t) h =
+    let half : (2 ^ suc k - 1) / 2 ≡ 2 ^ k - 1 = omega (arith, pow-pos k) in
+    bit-next (2 ^ suc k - 1) t ∙ ap (λ (z : ℕ). bit z t) half ∙ bit-full k t (omega arith)
 
 -- ---- membership after each operation
 
@@ -251,3 +266,30 @@ without-le x t = omega arith
 pub shifted-one : (t : ℕ) → t < 64 → 1 * 2 ^ t % 2 ^ 64 ≡ single t
 unfolding single
 shifted-one t h = ap (λ (y : ℕ). y % 2 ^ 64) (one-mul (2 ^ t)) ∙ mod-eq-of-lt (pow-lt h)
+
+-- ---- gathering
+
+module _ (x : ℕ) (table : List ℕ) where
+  pub gathered-none : (c : ℕ) → gathered 0 x table c ≡ false
+  unfolding gathered any
+  gathered-none c = refl
+
+  pub gathered-next : (t c : ℕ) → gathered (t + 1) x table c ≡ (gathered t x table c || bit x t && bit (getD table t 0) c)
+  unfolding gathered
+  gathered-next t c = any-next (λ u. bit x u && bit (getD table u 0) c) t
+
+-- One word more: the union with the word at t, where t is a member of x.
+pub gather-more : (x found word t : ℕ) (table : List ℕ) → Represents found (gathered t x table)
+    → Represents word (λ c. bit x t && bit (getD table t 0) c) → Represents (union found word) (gathered (t + 1) x table)
+gather-more x found word t table h w c =
+    bit-union found word c ∙ ap (λ (p : Bool). p || bit word c) (h c) ∙ ap (λ (q : Bool). gathered t x table c || q) (w c)
+    ∙ sym (gathered-next x table t c)
+
+-- ---- words in a list: one more row
+
+pub rows-more : (xs : List ℕ) (test : ℕ → ℕ → Bool) (s x : ℕ) → s < length xs → Rows s xs test → Represents x (test s) → Rows (s + 1) (set xs s x) test
+rows-more xs test s x l before here u h t =
+    elim (decLt u s) [
+      | yes k ↦ ap (λ (y : ℕ). bit y t) (getD-set-other xs s u x 0 (ne-of-lt k)) ∙ before u k t
+      | no k ↦ let e : s ≡ u = omega arith in subst (λ (v : ℕ). bit (getD (set xs s x) v 0) t ≡ test v t) e (ap (λ (y : ℕ). bit y t) (getD-set-same xs s x 0 l) ∙ here t)
+    ]

@@ -1,7 +1,11 @@
 -- Sets of states as 64-bit words: t is a member of x where bit t of x is set, bit 0 lowest (document 01, "The part record").
-use Prim.Native.Nat.{ℕ, _+_, _-_, _/_, _%_, _^_}
-use mathlib.Core.Bool.{Bool}
+use Prim.Native.Nat.{ℕ, _-_, _/_, _%_, _^_, _<_}
+use mathlib.Core.Path.{_≡_}
+use mathlib.Core.Bool.{Bool, _&&_}
+use mathlib.Core.List.{List}
+use lib.ListN.{getD}
 use lib.Dec.{eqb, leb}
+use Rattle.bounded.specs.Search.{any}
 use lib.Bits.{bitAnd, bitOr}
 use lib.Count.{trailingZeros}
 
@@ -32,3 +36,15 @@ without x t = x - 2 ^ t
 -- x has a member at n or above.
 unfoldable pub exceeds : ℕ → ℕ → Bool
 exceeds n x = leb (2 ^ n) x
+
+-- The members of x are exactly the numbers that pass the test.
+abbrev pub Represents : ℕ → (ℕ → Bool) → Type 0
+Represents x test = (t : ℕ) → bit x t ≡ test t
+
+-- The same for each of the first n words of a list.
+abbrev pub Rows : ℕ → List ℕ → (ℕ → ℕ → Bool) → Type 0
+Rows n xs test = (s : ℕ) → s < n → Represents (getD xs s 0) (test s)
+
+-- c is in the word of the list at some member of x below n.
+unfoldable pub gathered : ℕ → ℕ → List ℕ → ℕ → Bool
+gathered n x table c = any n (λ t. bit x t && bit (getD table t 0) c)

@@ -1,0 +1,13 @@
+pub mod Truth
+pub mod Roles
+pub mod Arrays
+pub mod SilentRows
+pub mod ClassRows
+pub mod Scans
+pub mod Offers
+pub mod Answering
+pub mod SilentReach
+pub mod Reflect
+pub mod First
+pub mod Theorems
+pub mod Verdicts

@@ -1,0 +1,35 @@
+-- The verdict by its parts: from the rejection and from the first violation; and what an accepted record gives to the rules. Assumes nothing.
+use Prim.Native.Nat.{ℕ, _≤_, _<_}
+use mathlib.Core.Path.{_≡_, refl, sym, ap, _∙_}
+use mathlib.Core.List.{List}
+use mathlib.Core.Option.{Option, none, some}
+use native.Mathlib.Omega.{arith}
+use Rattle.words.proofs.Sets.{within-members}
+use Rattle.part.specs.Record.{states, class, row, Framed}
+use Rattle.part.specs.Rejections.{rejection, Accepted}
+use Rattle.part.specs.Answers.{says}
+use Rattle.part.proofs.Accepted.{rejection-none}
+use Rattle.part.proofs.Ranges.{ranges, frame, row-within}
+use Rattle.part.specs.declared.answer.Screening.{Screening}
+use Rattle.part.specs.declared.answer.Screening.the-variants.{Accepted as Sound, Rejected}
+use Rattle.restrictive.specs.Sets.{RowsWithin, ClassesBelow}
+use Rattle.restrictive.specs.Verdict.{Violation, refused, by-rules, after-rejection, first-violation, verdict}
+
+pub refused-verdict : (b : List ℕ) (k : ℕ) → rejection b ≡ some k → verdict b ≡ refused k
+unfolding verdict after-rejection
+refused-verdict b k e = ap (λ (o : Option ℕ). after-rejection o b) e
+
+pub rules-verdict : (b : List ℕ) (o : Option Violation) → rejection b ≡ none → first-violation b ≡ o → verdict b ≡ by-rules o
+unfolding verdict after-rejection
+rules-verdict b o e f = ap (λ (r : Option ℕ). after-rejection r b) e ∙ ap by-rules f
+
+-- What the rules need of an accepted record.
+pub ready : (b : List ℕ) → rejection b ≡ none → Framed b × (RowsWithin b × ClassesBelow b)
+ready b e =
+    let a = rejection-none b .0 e in (
+      frame b a,
+      (
+        λ i s t h l m. within-members (states b) (row b i s) (row-within b a i s h l) t m,
+        λ s h. omega (arith, ranges b a .class-below s h, ranges b a .most-states),
+      ),
+    )

@@ -1,0 +1,5 @@
+pub mod Tests
+pub mod Verdict
+pub mod Sets
+pub mod Answers
+pub mod Theorems

@@ -1,0 +1,62 @@
+-- What is proved of the verdict, as statements over all bytes. Their proofs stand in proofs/ under the names in lower case.
+use Prim.Native.Nat.{ℕ, _<_}
+use mathlib.Core.Path.{_≡_}
+use mathlib.Core.Logic.{_↔_}
+use mathlib.Core.List.{List, [], _∷_}
+use mathlib.Core.Option.{some}
+use mathlib.Core.Bool.{true, false}
+use Rattle.machine.specs.Rules.{Rule, rule-1, rule-2, rule-3, rule-4, rule-5, Restrictive, Broken}
+use Rattle.machine.specs.Noninterference.{Noninterfering}
+use Rattle.part.specs.Record.{states}
+use Rattle.part.specs.Rejections.{Condition, conditions, Accepted}
+use Rattle.part.specs.Machine.{State, machine, observation}
+use Rattle.restrictive.specs.Verdict.{Violation, Verdict, pass, refused, breaks, verdict}
+
+-- A record passes exactly if no rejection applies to it and its machine is restrictive with its own partition (demand 2).
+abbrev pub PassesExactly : Type 0
+PassesExactly = (b : List ℕ) → (verdict b ≡ pass) ↔ ((a : Accepted b) × Restrictive (machine b a) (observation b))
+
+-- The condition with number k holds, and none before it in the list.
+pub data FirstHolding (b : List ℕ) : List Condition → ℕ → Type 0 where
+  here : {c : Condition} {cs : List Condition} → c .holds b ≡ true → FirstHolding b (c ∷ cs) (c .number)
+  later : {c : Condition} {cs : List Condition} {k : ℕ} → c .holds b ≡ false → FirstHolding b cs k → FirstHolding b (c ∷ cs) k
+
+-- A record is refused exactly with the first condition that holds of it.
+abbrev pub RefusedExactly : Type 0
+RefusedExactly = (b : List ℕ) (k : ℕ) → (verdict b ≡ refused k) ↔ FirstHolding b conditions k
+
+-- The number of a rule.
+unfoldable pub rule-number : Rule → ℕ
+rule-number rule-1 = 1
+rule-number rule-2 = 2
+rule-number rule-3 = 3
+rule-number rule-4 = 4
+rule-number rule-5 = 5
+
+-- One list of numbers comes before another: at the first place where they differ it is smaller.
+pub data Before : List ℕ → List ℕ → Type 0 where
+  smaller : {x y : ℕ} {xs ys : List ℕ} → x < y → Before (x ∷ xs) (y ∷ ys)
+  equal : {x : ℕ} {xs ys : List ℕ} → Before xs ys → Before (x ∷ xs) (x ∷ ys)
+
+-- A violation in the order in which violations are named: rule, event, s, t, u.
+abbrev pub in-order : Violation → List ℕ
+in-order v = v .rule ∷ v .event ∷ v .s ∷ v .t ∷ v .u ∷ []
+
+-- v names a rule that is broken at an event and at states of the machine.
+pub record Names (b : List ℕ) (a : Accepted b) (v : Violation) : Type 0 where
+  pub the-rule : Rule
+  pub s : State b
+  pub t : State b
+  pub u : State b
+  pub as-named : in-order v ≡ rule-number the-rule ∷ v .event ∷ s .0 ∷ t .0 ∷ u .0 ∷ []
+  pub is-broken : Broken (machine b a) (observation b) the-rule (v .event) s t u
+
+-- A break is named exactly if it is one, and none is before it in that order.
+abbrev pub BreaksExactly : Type 0
+BreaksExactly =
+    (b : List ℕ) (v : Violation)
+    → (verdict b ≡ breaks v) ↔ ((a : Accepted b) × Names b a v × ((w : Violation) → Names b a w → Before (in-order w) (in-order v) → ⊥))
+
+-- A passing part hides its high inputs: generalized noninterference (demand 3, last sentence).
+abbrev pub PassingHides : Type 0
+PassingHides = (b : List ℕ) (a : Accepted b) → verdict b ≡ pass → Noninterfering (machine b a) (observation b)

@@ -1,0 +1,62 @@
+-- The verdict of Check on a record (document 01, "The five rules" and "Order"): the rejections, then the first violation by rule, event,
+-- s, t, u, each ascending.
+use Prim.Native.Nat.{ℕ, zero, suc}
+use mathlib.Core.Bool.{Bool, true, false, cond}
+use mathlib.Core.List.{List}
+use mathlib.Core.Option.{Option, none, some}
+use Rattle.bounded.specs.Search.{first}
+use Rattle.machine.specs.Rules.{Rule, rule-1, rule-2, rule-3, rule-4, rule-5}
+use Rattle.part.specs.Record.{states, events, identifier}
+use Rattle.part.specs.Rejections.{rejection}
+use Rattle.restrictive.specs.Tests.{broken}
+
+-- A violation (document 01: a break): rule, identifier, s, t, u.
+pub record Violation : Type 0 where
+  pub rule : ℕ
+  pub event : ℕ
+  pub s : ℕ
+  pub t : ℕ
+  pub u : ℕ
+
+pub data Verdict : Type 0 where
+  pass : Verdict
+  refused : ℕ → Verdict
+  breaks : Violation → Verdict
+
+-- The rules in order, from 0, and their numbers.
+unfoldable pub rule-at : ℕ → Rule
+rule-at zero = rule-1
+rule-at (suc zero) = rule-2
+rule-at (suc (suc zero)) = rule-3
+rule-at (suc (suc (suc zero))) = rule-4
+rule-at (suc (suc (suc (suc k)))) = rule-5
+
+-- The violation of a rule by the event at place i at s, t, u, where it is one.
+unfoldable pub violation-at : List ℕ → ℕ → ℕ → ℕ → ℕ → ℕ → Option Violation
+violation-at b k i s t u =
+    cond (broken b (rule-at k) i s t u) (some (record { rule = suc k; event = identifier b i; s = s; t = t; u = u })) none
+
+-- The first at a state s, of an event, of a rule, of the record.
+unfoldable pub state-violation : List ℕ → ℕ → ℕ → ℕ → Option Violation
+state-violation b k i s = first (states b) (λ t. first (states b) (violation-at b k i s t))
+
+unfoldable pub event-violation : List ℕ → ℕ → ℕ → Option Violation
+event-violation b k i = first (states b) (state-violation b k i)
+
+unfoldable pub rule-violation : List ℕ → ℕ → Option Violation
+rule-violation b k = first (events b) (event-violation b k)
+
+unfoldable pub first-violation : List ℕ → Option Violation
+first-violation b = first 5 (rule-violation b)
+
+-- The verdict by the rules alone.
+unfoldable pub by-rules : Option Violation → Verdict
+by-rules none = pass
+by-rules (some v) = breaks v
+
+unfoldable pub after-rejection : Option ℕ → List ℕ → Verdict
+after-rejection none b = by-rules (first-violation b)
+after-rejection (some k) b = refused k
+
+unfoldable pub verdict : List ℕ → Verdict
+verdict b = after-rejection (rejection b) b
