@@ -7,7 +7,7 @@ use Rattle.part.specs.declared.answer.Screening.{Screening}
 use Rattle.part.specs.declared.answer.Screening.the-variants.{Accepted, Rejected}
 
 -- The number of a rejection (document 01, "Refusals out of the input").
-unfoldable pub number-of : Rejection → ℕ
+abbrev pub number-of : Rejection → ℕ
 number-of TooShort = 1
 number-of WrongLength = 2
 number-of WrongKind = 3

@@ -4,11 +4,29 @@ ghost use Prim.Native.Nat.{_+_, _<_, max};
 ghost use mathlib.Core.Bool.{false};
 ghost use Rattle.part.specs.Record.{states, events, Framed};
 ghost use Rattle.part.specs.Rejections.{too-short, wrong-length, wrong-kind, out-of-range, wrong-size, misnumbered, falls-at, falling, unknown-at, unknown-kind, misordered, strays-at, row-strays, stray-bit, rejection};
-ghost use Rattle.part.specs.Answers.{says};
+ghost use Rattle.part.specs.Answers.{number-of, says};
 use crate::answer::Rejection;
 use crate::answer::Screening;
 use crate::field::Part;
 use words::set;
+
+impl Rejection {
+    // The number of document 01.
+    pub fn number(self) -> u32
+        ensures { λ k. ⌜ k ≡ number-of self ⌝ }
+    {
+        match self {
+            Rejection::TooShort => 1,
+            Rejection::WrongLength => 2,
+            Rejection::WrongKind => 3,
+            Rejection::OutOfRange => 4,
+            Rejection::WrongSize => 5,
+            Rejection::Misnumbered => 6,
+            Rejection::Misordered => 7,
+            Rejection::StrayBit => 8,
+        }
+    }
+}
 
 fn too_short(b: &[u8]) -> bool
     ensures { λ r. ⌜ r ≡ too-short (now (b .entry)) ⌝ }

@@ -1,5 +1,5 @@
 -- The verdict of a record is what its machine is: the statements of specs/Theorems.antt. Assumes nothing.
-use Prim.Native.Nat.{ℕ, zero, suc, _<_}
+use Prim.Native.Nat.{ℕ, zero, suc, _≤_, _<_}
 use mathlib.Core.Path.{_≡_, refl, sym, ap, _∙_, subst}
 use mathlib.Core.List.{List, [], _∷_}
 use mathlib.Core.Option.{Option, none, some}
@@ -15,7 +15,8 @@ use Rattle.part.proofs.Accepted.{skip, hit, rejection-none}
 use Rattle.part.proofs.Places.{places}
 use Rattle.part.proofs.Ranges.{ranges}
 use Rattle.restrictive.specs.Tests.{answers}
-use Rattle.restrictive.specs.Verdict.{Violation, pass, refused, rule-at, first-violation, by-rules, after-rejection, verdict}
+use Rattle.restrictive.specs.Verdict.{Violation, pass, refused, rule-at, first-violation, by-rules, after-rejection, breaks, verdict}
+use lib.ListN.{getD}
 use Rattle.restrictive.specs.Theorems.{
   PassesExactly,
   FirstHolding,
@@ -184,3 +185,19 @@ passing-restrictive b a e = restrictive-iff b a .0 (by-rules-iff b none .0 e .1)
 
 pub passing-hides : PassingHides
 passing-hides b a e = restrictive-hides _ _ _ (passing-restrictive b a e)
+
+-- ---- a break names one of the five rules
+
+rule-most : (r : Rule) → rule-number r ≤ 5
+unfolding rule-number
+rule-most rule-1 = omega arith
+rule-most rule-2 = omega arith
+rule-most rule-3 = omega arith
+rule-most rule-4 = omega arith
+rule-most rule-5 = omega arith
+
+pub break-rule : (b : List ℕ) (v : Violation) → verdict b ≡ breaks v → v .rule ≤ 5
+break-rule b v e =
+    let w = breaks-exactly b v .0 e .1 in
+    let q : v .rule ≡ rule-number (w .the-rule) = ap (λ (l : List ℕ). getD l 0 0) (w .as-named) in
+    omega (arith, rule-most (w .the-rule))

@@ -2,23 +2,23 @@
 use Prim.Native.Nat.{ℕ, zero, suc, _+_, _-_, _*_, _/_, _%_, _^_, _≤_, _<_, min, max}
 use mathlib.Core.Path.{_≡_, refl, sym, ap, _∙_, subst}
 use mathlib.Core.Bool.{Bool, true, false, not, _||_, _&&_}
-use mathlib.Core.Logic.{_↔_}
-use native.Mathlib.Nat.{div-one, div-eq-of-lt, mod-lt, lt-of-lt-of-le, pow-zero, pow-suc, zero-div, mod-eq-of-lt, one-mul, le-div-iff-mul-le, lt-of-not-le, ne-of-lt}
+use mathlib.Core.Logic.{_↔_, ⊎-elim}
+use native.Mathlib.Nat.{div-one, div-eq-of-lt, mod-lt, lt-of-lt-of-le, pow-succ', zero-div, mod-eq-of-lt, one-mul, le-div-iff-mul-le, lt-of-not-le, ne-of-lt}
 use native.Mathlib.Numerals.{one-add, add-one}
-use native.Mathlib.Decide.{decLe, decLt}
+use native.Mathlib.Decide.{decLe, decLt, ℕ-discrete as decEq}
 use native.Mathlib.Omega.{arith}
-use mathlib.Core.Bool.{and-true, and-false}
-use lib.Dec.{eqb, leb, lit<, eqb·suc-suc, eqb·zero-suc, eqb·suc-zero}
+use mathlib.Core.Bool.{and-true, and-false, or-true, or-false, or-assoc}
+use lib.Dec.{eqb, ltb, leb, lit<, eqb·suc-suc, eqb·zero-suc, eqb·suc-zero}
 use lib.Arith.{digits-mod, digits-div}
 use lib.Pow.{shr-shr, shr-lt, pow-mono, pow-pos, pow-lt, field, mod-pow-add, mod-mod-pow}
-use lib.Bits.{bitAnd, bitOr, and-shr, or-shr, and-step, or-step, and-lt, or-lt}
+use lib.Bits.{bitAnd, bitOr, and-shr, or-shr, and-step, or-step, and-lt, or-lt, and-self}
 use lib.Count.{trailingZeros, under}
-use borrow.Author.Tests.{eqb-true, eq-eqb, leb-false, lt-leb, le-leb}
+use borrow.Author.Tests.{eqb-true, eq-eqb, ne-eqb, lt-ltb, le-ltb, leb-false, lt-leb, le-leb}
 use mathlib.Core.List.{List}
 use lib.ListN.{length, getD, set}
 use lib.Seq.{getD-set-same, getD-set-other}
 use Rattle.bounded.specs.Search.{any}
-use Rattle.bounded.proofs.Search.{any-next}
+use Rattle.bounded.proofs.Search.{any-at, any-found, any-same, same-truth, is-false, true-not-false, true-or-false, and-now, and-never, and-left, and-right, or-now, or-then}
 use Rattle.words.specs.Sets.{Represents, Rows, gathered, bit, union, intersection, single, lowest, without, exceeds}
 
 -- ---- a bit at a time
@@ -269,21 +269,144 @@ shifted-one t h = ap (λ (y : ℕ). y % 2 ^ 64) (one-mul (2 ^ t)) ∙ mod-eq-of-
 
 -- ---- gathering
 
-module _ (x : ℕ) (table : List ℕ) where
-  pub gathered-none : (c : ℕ) → gathered 0 x table c ≡ false
-  unfolding gathered any
-  gathered-none c = refl
+pub gathered-none : (x : ℕ) (table : List ℕ) (c : ℕ) → gathered 0 x table c ≡ false
+unfolding gathered any
+gathered-none x table c = refl
 
-  pub gathered-next : (t c : ℕ) → gathered (t + 1) x table c ≡ (gathered t x table c || bit x t && bit (getD table t 0) c)
-  unfolding gathered
-  gathered-next t c = any-next (λ u. bit x u && bit (getD table u 0) c) t
+-- Nothing is gathered from the empty set.
+pub gathered-empty : (n : ℕ) (table : List ℕ) (c : ℕ) → gathered n 0 table c ≡ false
+unfolding gathered
+gathered-empty n table c =
+    is-false _ (λ e.
+    let w = any-found n (λ u. bit 0 u && bit (getD table u 0) c) e in
+    true-not-false (and-left (bit 0 (w .0)) (bit (getD table (w .0) 0) c) (w .2)) (bit-zero (w .0)))
 
--- One word more: the union with the word at t, where t is a member of x.
-pub gather-more : (x found word t : ℕ) (table : List ℕ) → Represents found (gathered t x table)
-    → Represents word (λ c. bit x t && bit (getD table t 0) c) → Represents (union found word) (gathered (t + 1) x table)
-gather-more x found word t table h w c =
-    bit-union found word c ∙ ap (λ (p : Bool). p || bit word c) (h c) ∙ ap (λ (q : Bool). gathered t x table c || q) (w c)
-    ∙ sym (gathered-next x table t c)
+-- Sets with the same members below n gather the same.
+pub gathered-same : (n x y : ℕ) (table : List ℕ) → ((t : ℕ) → t < n → bit x t ≡ bit y t) → (c : ℕ) → gathered n x table c ≡ gathered n y table c
+unfolding gathered
+gathered-same n x y table h c =
+    any-same n (λ u. bit x u && bit (getD table u 0) c) (λ u. bit y u && bit (getD table u 0) c)
+    (λ u l. ap (λ (p : Bool). p && bit (getD table u 0) c) (h u l))
+
+-- The word at a member t of x, and what x without t gathers, is what x gathers.
+pub gathered-without : (n x t : ℕ) (table : List ℕ) → t < n → bit x t ≡ true → (c : ℕ)
+    → gathered n x table c ≡ (bit (getD table t 0) c || gathered n (without x t) table c)
+unfolding gathered
+gathered-without n x t table h m c =
+    let here : ℕ → Bool = λ u. bit x u && bit (getD table u 0) c in
+    let rest : ℕ → Bool = λ u. bit (without x t) u && bit (getD table u 0) c in
+    same-truth (any n here) (bit (getD table t 0) c || any n rest)
+    (λ e.
+    let w = any-found n here e in
+    elim (decEq t (w .0)) [
+      | yes q ↦ or-now _ (any n rest) (subst (λ (u : ℕ). bit (getD table u 0) c ≡ true) (sym q) (and-right (bit x (w .0)) (bit (getD table (w .0) 0) c) (w .2)))
+      | no q ↦
+          or-last (bit (getD table t 0) c) (any n rest) (any-at rest n (w .0) (w .1)
+          (and-now (bit (without x t) (w .0)) (bit (getD table (w .0) 0) c)
+          (bit-without x t (w .0) m ∙ and-now (bit x (w .0)) (not (eqb t (w .0))) (and-left (bit x (w .0)) (bit (getD table (w .0) 0) c) (w .2)) ∙ ap not (ne-eqb t (w .0) q))
+          ∙ and-right (bit x (w .0)) (bit (getD table (w .0) 0) c) (w .2)))
+    ])
+    (λ e.
+    ⊎-elim
+    (λ p. any-at here n t h (and-now (bit x t) (bit (getD table t 0) c) m ∙ p))
+    (λ p.
+    let w = any-found n rest (sym (or-then (bit (getD table t 0) c) (any n rest) p) ∙ e) in
+    let kept = and-left (bit (without x t) (w .0)) (bit (getD table (w .0) 0) c) (w .2) in
+    any-at here n (w .0) (w .1)
+    (and-now (bit x (w .0)) (bit (getD table (w .0) 0) c) (and-left (bit x (w .0)) (not (eqb t (w .0))) (sym (bit-without x t (w .0) m) ∙ kept))
+    ∙ and-right (bit (without x t) (w .0)) (bit (getD table (w .0) 0) c) (w .2)))
+    (true-or-false (bit (getD table t 0) c)))
+  where
+    or-last : (p q : Bool) → q ≡ true → (p || q) ≡ true
+    or-last p q e = ap (λ (x : Bool). p || x) e ∙ or-true p
+
+-- ---- what the code of `below` and `drop_lowest` computes
+
+shifted-full : (n t : ℕ) → n ≤ 64 → bit ((2 ^ 64 - 1) / 2 ^ (64 - n)) t ≡ ltb t n
+unfolding bit
+shifted-full n t h =
+    let at = 64 - n + t in
+    ap (λ (y : ℕ). eqb (y % 2) 1) (shr-shr (2 ^ 64 - 1) (64 - n) t)
+    ∙ elim (decLt t n) [
+      | yes l ↦ bit-full 64 at (omega arith) ∙ sym (lt-ltb t n l)
+      | no l ↦ none-above (2 ^ 64 - 1) 64 at (lit< tt) (omega arith) ∙ sym (le-ltb t n (omega arith))
+    ]
+
+pub below-full : (n x : ℕ) → n ≤ 64 → Represents (intersection x ((2 ^ 64 - 1) / 2 ^ (64 - n))) (λ t. bit x t && ltb t n)
+below-full n x h t = bit-intersection x _ t ∙ ap (λ (p : Bool). bit x t && p) (shifted-full n t h)
+
+clear : (k x : ℕ) → x < 2 ^ k → (x ≡ 0 → ⊥) → bitAnd x (x - 1) ≡ x - 2 ^ trailingZeros k x
+unfolding trailingZeros
+clear zero x h n = absurd (n (omega arith))
+clear (suc k) x h n = go (clear k (x / 2)) (x % 2) refl
+  where
+    doubled : (p : ℕ) → min (x % 2) ((x - 1) % 2) ≡ 0 → x % 2 ≡ 0 → (x / 2 - p) * 2 + min (x % 2) ((x - 1) % 2) ≡ x - 2 * p
+    doubled p l e = omega arith
+
+    go : (x / 2 < 2 ^ k → (x / 2 ≡ 0 → ⊥) → bitAnd (x / 2) (x / 2 - 1) ≡ x / 2 - 2 ^ trailingZeros k (x / 2))
+        → (d : ℕ) → x % 2 ≡ d → bitAnd x (x - 1) ≡ x - 2 ^ under d (trailingZeros k (x / 2))
+    go rest zero e =
+        let less = rest (omega arith) (λ z. n (omega arith)) in
+        let half : (x - 1) / 2 ≡ x / 2 - 1 = omega arith in
+        let low : min (x % 2) ((x - 1) % 2) ≡ 0 = omega arith in
+        and-step x (x - 1) ∙ ap (λ (y : ℕ). bitAnd (x / 2) y * 2 + min (x % 2) ((x - 1) % 2)) half
+        ∙ ap (λ (y : ℕ). y * 2 + min (x % 2) ((x - 1) % 2)) less ∙ doubled (2 ^ trailingZeros k (x / 2)) low e ∙ ap (λ (q : ℕ). x - q) (sym (pow-succ' 2 (trailingZeros k (x / 2))))
+    go rest (suc d) e =
+        let half : (x - 1) / 2 ≡ x / 2 = omega (arith, digit x) in
+        let low : min (x % 2) ((x - 1) % 2) ≡ 0 = omega (arith, digit x) in
+        and-step x (x - 1) ∙ ap (λ (y : ℕ). bitAnd (x / 2) y * 2 + min (x % 2) ((x - 1) % 2)) half
+        ∙ ap (λ (y : ℕ). y * 2 + min (x % 2) ((x - 1) % 2)) (and-self (x / 2)) ∙ omega (arith, digit x)
+
+pub clear-lowest : (x : ℕ) → x < 2 ^ 64 → (x ≡ 0 → ⊥) → bitAnd x (x - 1) ≡ without x (lowest x)
+unfolding without lowest
+clear-lowest x h n = clear 64 x h n
+
+-- ---- the loop of `gather`: what is found, and what is left of the set
+
+module _ (n x : ℕ) (table : List ℕ) where
+  pub record Gathering (rest found : ℕ) : Type 0 where
+    pub inside : (t : ℕ) → n ≤ t → bit rest t ≡ false
+    pub sum : (c : ℕ) → gathered n x table c ≡ (bit found c || gathered n rest table c)
+
+  pub gathering-start : (rest : ℕ) → Represents rest (λ t. bit x t && ltb t n) → Gathering rest 0
+  gathering-start rest r = record {
+    inside = λ t h. r t ∙ ap (λ (p : Bool). bit x t && p) (le-ltb t n h) ∙ and-false (bit x t);
+    sum = λ c.
+        gathered-same n x rest table (λ t l. sym (r t ∙ ap (λ (p : Bool). bit x t && p) (lt-ltb t n l) ∙ and-true (bit x t))) c
+        ∙ sym (or-then (bit 0 c) (gathered n rest table c) (bit-zero c));
+  }
+
+  pub gathering-small : (rest found : ℕ) → n ≤ 64 → Gathering rest found → rest < 2 ^ 64
+  gathering-small rest found h g = all-below 64 rest (λ t l. g .inside t (omega arith))
+
+  pub gathering-lowest : (rest found : ℕ) → n ≤ 64 → Gathering rest found → (rest ≡ 0 → ⊥) → lowest rest < n
+  gathering-lowest rest found h g z =
+      elim (decLt (lowest rest) n) [
+        | yes l ↦ l
+        | no l ↦ absurd (true-not-false (lowest-member rest (gathering-small rest found h g) z .member) (g .inside (lowest rest) (omega arith)))
+      ]
+
+  pub gathering-next : (rest found : ℕ) → n ≤ 64 → Gathering rest found → (rest ≡ 0 → ⊥)
+      → Gathering (without rest (lowest rest)) (union found (getD table (lowest rest) 0))
+  gathering-next rest found h g z =
+      let m = lowest-member rest (gathering-small rest found h g) z .member in
+      let word = getD table (lowest rest) 0 in
+      record {
+        inside = λ t l.
+            bit-without rest (lowest rest) t m ∙ and-never (bit rest t) (not (eqb (lowest rest) t)) (g .inside t l);
+        sum = λ c.
+            g .sum c ∙ ap (λ (p : Bool). bit found c || p) (gathered-without n rest (lowest rest) table (gathering-lowest rest found h g z) m c)
+            ∙ sym (or-assoc (bit found c) (bit word c) (gathered n (without rest (lowest rest)) table c))
+            ∙ ap (λ (p : Bool). p || gathered n (without rest (lowest rest)) table c) (sym (bit-union found word c));
+      }
+
+  pub gathering-end : (rest found : ℕ) → rest ≡ 0 → Gathering rest found → Represents found (gathered n x table)
+  gathering-end rest found e g c =
+      sym (g .sum c ∙ ap (λ (r : ℕ). bit found c || gathered n r table c) e ∙ ap (λ (p : Bool). bit found c || p) (gathered-empty n table c) ∙ or-false (bit found c))
+
+pub without-less : (x t : ℕ) → (x ≡ 0 → ⊥) → without x t < x
+unfolding without
+without-less x t n = omega (arith, pow-pos t)
 
 -- ---- words in a list: one more row
 

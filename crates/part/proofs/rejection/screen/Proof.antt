@@ -7,7 +7,7 @@ use denote.Ref.{now}
 use lib.ListN.{drop}
 use borrow.Author.Needs.{needs}
 use Rattle.part.specs.Rejections.{too-short, wrong-length, wrong-kind, out-of-range, wrong-size, misnumbered, misordered, stray-bit, conditions, first-of, rejection}
-use Rattle.part.specs.Answers.{number-of, says}
+use Rattle.part.specs.Answers.{says}
 use Rattle.part.specs.Record.{Framed}
 use Rattle.part.proofs.Accepted.{skip, hit}
 use Rattle.part.proofs.Rejections.{framed}
@@ -98,56 +98,56 @@ too-short-requires : tie.Need-too-short-requires
 too-short-requires c κs = search needs
 
 returns : tie.Need-returns
-unfolding rejection says number-of
+unfolding rejection says
 returns c = sym (hit _ _ _ (sym (c .before .too-short .ensures) ∙ c .if1 .taken))
 
 wrong-length-requires : tie.Need-wrong-length-requires
 wrong-length-requires c κs = not-1 c
 
 returns-2 : tie.Need-returns-2
-unfolding says number-of
+unfolding says
 returns-2 c = sym (past-1 (c .before .before) ∙ hit _ _ _ (sym (c .before .wrong-length .ensures) ∙ c .if2 .taken))
 
 wrong-kind-requires : tie.Need-wrong-kind-requires
 wrong-kind-requires c κs = not-1 (c .before .before)
 
 returns-3 : tie.Need-returns-3
-unfolding says number-of
+unfolding says
 returns-3 c = sym (past-2 (c .before .before) ∙ hit _ _ _ (sym (c .before .wrong-kind .ensures) ∙ c .if3 .taken))
 
 out-of-range-requires : tie.Need-out-of-range-requires
 out-of-range-requires c κs = (not-1 (c .before .before .before .before), not-2 (c .before .before))
 
 returns-4 : tie.Need-returns-4
-unfolding says number-of
+unfolding says
 returns-4 c = sym (past-3 (c .before .before) ∙ hit _ _ _ (sym (c .before .out-of-range .ensures) ∙ c .if4 .taken))
 
 wrong-size-requires : tie.Need-wrong-size-requires
 wrong-size-requires c κs = (not-1 (c .before .before .before .before .before .before), (not-2 (c .before .before .before .before), not-4 c))
 
 returns-5 : tie.Need-returns-5
-unfolding says number-of
+unfolding says
 returns-5 c = sym (past-4 (c .before .before) ∙ hit _ _ _ (sym (c .before .wrong-size .ensures) ∙ c .if5 .taken))
 
 misnumbered-requires : tie.Need-misnumbered-requires
 misnumbered-requires c κs = frame c
 
 returns-6 : tie.Need-returns-6
-unfolding says number-of
+unfolding says
 returns-6 c = sym (past-5 (c .before .before) ∙ hit _ _ _ (sym (c .before .misnumbered .ensures) ∙ c .if6 .taken))
 
 misordered-requires : tie.Need-misordered-requires
 misordered-requires c κs = frame (c .before .before)
 
 returns-7 : tie.Need-returns-7
-unfolding says number-of
+unfolding says
 returns-7 c = sym (past-6 (c .before .before) ∙ hit _ _ _ (sym (c .before .misordered .ensures) ∙ c .if7 .taken))
 
 stray-bit-requires : tie.Need-stray-bit-requires
 stray-bit-requires c κs = frame (c .before .before .before .before)
 
 returns-8 : tie.Need-returns-8
-unfolding says number-of
+unfolding says
 returns-8 c = sym (past-7 (c .before .before) ∙ hit _ _ _ (sym (c .before .stray-bit .ensures) ∙ c .if8 .taken))
 
 returns-9 : tie.Need-returns-9
