@@ -5,3 +5,4 @@ pub mod Rules
 pub mod Traces
 pub mod Noninterference
 pub mod Hookup
+pub mod Examples

@@ -7,4 +7,3 @@ pub mod Machine
 pub mod Theorems
 pub mod Samples
 pub mod Examples
-pub mod Starred

@@ -16,3 +16,12 @@ P =
 -- Z, 11 bytes: one state, no events.
 abbrev pub Z : List ℕ
 Z = 5 ∷ 0 ∷ 0 ∷ 0 ∷ 1 ∷ 0 ∷ 0 ∷ 1 ∷ 0 ∷ 0 ∷ 0 ∷ []
+
+-- T: three states, start 0, observer 0, classes 0 0 1, and one event 1 of this kind and level with these rows.
+abbrev pub T : ℕ → ℕ → ℕ → ℕ → ℕ → List ℕ
+T kind level row-0 row-1 row-2 =
+    0x23 ∷ 0 ∷ 0 ∷ 0 ∷ 0x01 ∷ 0 ∷ []
+    ++ 0x00 ∷ 0x03 ∷ 0x00 ∷ 0x01 ∷ []
+    ++ 0x00 ∷ 0x00 ∷ 0x01 ∷ []
+    ++ 0x01 ∷ 0x00 ∷ kind ∷ level ∷ []
+    ++ digits 8 row-0 ++ digits 8 row-1 ++ digits 8 row-2

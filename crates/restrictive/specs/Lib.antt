@@ -3,3 +3,6 @@ pub mod Verdict
 pub mod Sets
 pub mod Answers
 pub mod Theorems
+pub mod Judged
+pub mod Starred
+pub mod Examples
