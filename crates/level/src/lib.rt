@@ -3,25 +3,26 @@ ghost use mathlib.Core.Path.{_≡_};
 ghost use Prim.Native.Nat.{_<_};
 ghost use Rattle.level.specs.Level.{rank, compartments, at-or-below, low};
 
-pub struct Level {
-    pub byte: u8,
-}
+pub struct Level;
 
 impl Level {
-    pub const RANKS: u8 = 4;
-
+    // Bits 5 to 0 are compartments; the rank counts from the bit above them.
     pub const COMPARTMENTS: u8 = 6;
+
+    pub const ONE_RANK: u8 = 1 << Level::COMPARTMENTS;
+
+    pub const MAX_RANK: u8 = 255 / Level::ONE_RANK;
 
     pub fn rank(level: u8) -> u8
         ensures { λ r. ⌜ r ≡ rank level ⌝ }
     {
-        level / 64
+        level / Level::ONE_RANK
     }
 
     pub fn compartments(level: u8) -> u8
         ensures { λ r. ⌜ r ≡ compartments level ⌝ }
     {
-        level % 64
+        level % Level::ONE_RANK
     }
 
     // a is at or below b: each compartment of a that b has too is all of a's.

@@ -5,11 +5,7 @@ ghost use lib.ListN.{length};
 ghost use Rattle.part.specs.Record.{body-length, kind, observer, states, start, events, class, entry-at, identifier, event-kind, level, row, Framed};
 use words::le;
 
-// A part by its record's numbers; the record's bytes hold the rest.
-pub struct Part {
-    pub states: usize,
-    pub events: usize,
-}
+pub struct Part;
 
 impl Part {
     pub const STATES: usize = 64;
@@ -18,7 +14,7 @@ impl Part {
 
     pub const HEADER: usize = 6;
 
-    pub const BODY: usize = 16580;
+    pub const BODY: usize = 4 + Part::STATES + 4 * Part::EVENTS + 8 * Part::EVENTS * Part::STATES;
 
     pub const RECORD: usize = Part::HEADER + Part::BODY;
 
