@@ -1,6 +1,6 @@
 -- The laws of bounded searches: what an answer tells of each number below the bound, and how a loop that has searched below i goes on.
 -- Assumes nothing.
-use Prim.Native.Nat.{ℕ, zero, suc, _+_, _≤_, _<_}
+use Prim.Native.Nat.{ℕ, zero, suc, _+_, _<_}
 use mathlib.Core.Path.{_≡_, refl, sym, ap, _∙_, subst}
 use mathlib.Core.Bool.{Bool, true, false, not, _||_, _&&_, or-true, or-false}
 use mathlib.Core.Option.{Option, none, some}

@@ -1,12 +1,12 @@
 -- The order on levels: the test decides it, and comparing the compartments as sets is the test. Assumes nothing.
-use Prim.Native.Nat.{ℕ, _%_, _^_, _≤_, _<_}
+use Prim.Native.Nat.{ℕ, _^_, _≤_, _<_}
 use mathlib.Core.Path.{_≡_, refl, sym, ap, _∙_}
-use mathlib.Core.Bool.{Bool, true, false, not, _||_, _&&_, and-false}
+use mathlib.Core.Bool.{Bool, true, false, not, _||_, _&&_}
 use native.Mathlib.Nat.{mod-lt}
 use lib.Dec.{T, leb, lit<}
 use borrow.Author.Tests.{leb-true, le-leb, lt-leb}
 use Rattle.bounded.specs.Search.{all}
-use Rattle.bounded.proofs.Search.{all-intro, all-at, and-left, and-right, passed, passes, is-false, true-not-false}
+use Rattle.bounded.proofs.Search.{all-intro, all-at, and-left, and-right, passed, passes, is-false}
 use Rattle.words.specs.Sets.{bit, intersection}
 use Rattle.words.proofs.Sets.{bit-intersection, bit-mod, same-members, intersection-lt}
 use Rattle.level.specs.Level.{rank, compartments, AtOrBelow, at-or-below}

@@ -1,7 +1,7 @@
 -- Levels that tell the order from its wrong readings: an order of the bytes as numbers, of the ranks alone, of the compartments alone,
 -- and incomparable taken for low.
 use Prim.Native.Nat.{ℕ}
-use mathlib.Core.Bool.{Bool, true, false, not, _&&_}
+use mathlib.Core.Bool.{Bool, not, _&&_}
 use lib.Dec.{T}
 use Rattle.bounded.specs.Search.{all}
 use Rattle.words.specs.Sets.{bit}

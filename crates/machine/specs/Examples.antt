@@ -1,7 +1,6 @@
 -- The low events and the gaps of lists of events, computed: no low event, none at all, repeated inputs, empty gaps, a low internal event.
 use Prim.Native.Nat.{ℕ, zero, suc}
 use mathlib.Core.Path.{_≡_, refl}
-use mathlib.Core.Bool.{Bool, true, false}
 use mathlib.Core.List.{List, [], _∷_}
 use lib.Dec.{eqb}
 use Rattle.machine.specs.Machine.{input, output, internal, Event, absent, event, Machine, Observation}

@@ -1,8 +1,7 @@
 -- Traces, their low events, and the high inputs in the gaps between these (document 01, "The five rules" and "The shelf").
 use Prim.Native.Nat.{ℕ}
-use mathlib.Core.Bool.{Bool, true, false}
 use mathlib.Core.List.{List, [], _∷_}
-use Rattle.machine.specs.Machine.{Machine, Observation, Kind, input, output, internal}
+use Rattle.machine.specs.Machine.{Machine, Observation, input, output, internal}
 use Rattle.machine.specs.Roles.{Role, missing, low, high, role}
 
 module _ {S : Type 0} (M : Machine S) where

@@ -9,7 +9,6 @@ use native.Mathlib.Omega.{arith}
 use lib.Dec.{T}
 use Rattle.bounded.proofs.Search.{passed}
 use Rattle.machine.specs.Machine.{Kind, input, output, internal}
-use Rattle.words.specs.LittleEndian.{Bytes}
 use Rattle.words.proofs.Sets.{same-members}
 use Rattle.part.specs.Limits.{max-event-kind}
 use Rattle.part.specs.Record.{states, events, identifier, event-kind, level, row}

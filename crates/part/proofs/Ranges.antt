@@ -1,18 +1,17 @@
 -- The fields of an accepted record lie in their ranges. Assumes nothing.
-use Prim.Native.Nat.{ℕ, zero, suc, _+_, _-_, _*_, _^_, _≤_, _<_}
+use Prim.Native.Nat.{ℕ, zero, suc, _+_, _-_, _^_, _≤_, _<_}
 use mathlib.Core.Path.{_≡_}
 use mathlib.Core.Bool.{false}
 use mathlib.Core.List.{List}
 use native.Mathlib.Numerals.{add-one}
 use native.Mathlib.Decide.{decLe, decLt}
 use native.Mathlib.Omega.{arith}
-use lib.ListN.{length}
-use lib.Dec.{T, leb, ltb}
-use borrow.Author.Tests.{leb-false, ltb-false, eqb-true, not-false}
+use lib.Dec.{T}
+use borrow.Author.Tests.{leb-false, ltb-false}
 use Rattle.bounded.proofs.Search.{or-left, or-right, any-none, true-not-false, passed}
 use Rattle.words.specs.Sets.{bit, exceeds}
 use Rattle.words.proofs.Sets.{within-members}
-use Rattle.part.specs.Limits.{max-states, max-events, max-event-kind}
+use Rattle.part.specs.Limits.{max-event-kind}
 use Rattle.part.specs.Record.{states, events, class, classes-below, identifier, event-kind, row, Framed}
 use Rattle.part.specs.Rejections.{Accepted, misnumbered, skips-at, misordered, falling, falls-at, unknown-kind, unknown-at, stray-bit, row-strays, strays-at}
 use Rattle.part.specs.Machine.{start-below}

@@ -2,9 +2,9 @@
 -- two conditions, so that the order counts; some stand at a limit.
 use Prim.Native.Nat.{ℕ}
 use mathlib.Core.Path.{_≡_, refl}
-use mathlib.Core.Bool.{Bool, true, false, _&&_}
+use mathlib.Core.Bool.{Bool, true, _&&_}
 use mathlib.Core.List.{List, [], _∷_, _++_}
-use mathlib.Core.Option.{Option, none, some}
+use mathlib.Core.Option.{none, some}
 use lib.Dec.{T, eqb}
 use lib.ListN.{take, set}
 use Rattle.bounded.specs.Search.{any, first, or-else}
@@ -46,7 +46,7 @@ use Rattle.part.specs.Rejections.{
   first-of,
   rejection,
 }
-use Rattle.part.specs.Layout.{Fields, body, size, layout}
+use Rattle.part.specs.Layout.{body, size, layout}
 use Rattle.part.specs.Machine.{kind-of, at-place, place, event-of}
 use Rattle.part.specs.Samples.{P, Z}
 

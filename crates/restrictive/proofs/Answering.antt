@@ -1,14 +1,13 @@
 -- The arrays that the code makes for an event hold the classes that the rules ask about. Assumes nothing.
 use Prim.Native.Nat.{ℕ, zero, suc, _≤_, _<_}
 use mathlib.Core.Path.{_≡_, refl, sym, ap, _∙_, subst}
-use mathlib.Core.Bool.{Bool, true, false, not, _||_, _&&_}
+use mathlib.Core.Bool.{Bool, true, not, _||_, _&&_}
 use mathlib.Core.List.{List}
 use native.Mathlib.Omega.{arith}
 use lib.ListN.{getD}
 use lib.Dec.{eqb}
-use Rattle.bounded.specs.Search.{any, all}
+use Rattle.bounded.specs.Search.{any}
 use Rattle.bounded.proofs.Search.{any-at, any-found, any-same, all-same, same-truth, and-now, and-left, and-right}
-use Rattle.machine.specs.Rules.{rule-2}
 use Rattle.words.specs.Sets.{bit, Rows, gathered}
 use Rattle.part.specs.Record.{states, class}
 use Rattle.restrictive.specs.Tests.{leads, reach, around, same-class}

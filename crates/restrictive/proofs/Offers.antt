@@ -1,9 +1,9 @@
 -- The rules by their sets: where a rule is broken, in terms of what a state offers. Assumes nothing.
-use Prim.Native.Nat.{ℕ, zero, suc, _+_, _≤_, _<_}
-use mathlib.Core.Path.{_≡_, refl, sym, ap, _∙_, subst}
+use Prim.Native.Nat.{ℕ, zero, suc, _≤_, _<_}
+use mathlib.Core.Path.{_≡_, refl, sym, ap, _∙_}
 use mathlib.Core.Bool.{Bool, true, false, not, _||_, _&&_}
 use mathlib.Core.List.{List}
-use mathlib.Core.Option.{Option, none, some}
+use mathlib.Core.Option.{none, some}
 use native.Mathlib.Decide.{decLt}
 use native.Mathlib.Omega.{arith}
 use mathlib.Core.Logic.{⊎-elim}
@@ -12,8 +12,8 @@ use lib.ListN.{getD}
 use borrow.Author.Tests.{eqb-true, eq-eqb}
 use Rattle.bounded.specs.Search.{any, all, first}
 use Rattle.bounded.proofs.Search.{any-at, all-at, all-intro, any-found, any-none, first-nothing, first-hit, same-truth, is-false, is-true, true-not-false, imp-elim, imp-intro, not-refuted, true-or-false, and-now, and-right}
-use Rattle.machine.specs.Rules.{Rule, rule-1, rule-2, rule-3, rule-4, rule-5}
-use Rattle.part.specs.Record.{states, events, class, identifier, row}
+use Rattle.machine.specs.Rules.{Rule, rule-2}
+use Rattle.part.specs.Record.{states, class, identifier, row}
 use Rattle.restrictive.specs.Tests.{role-at, concerns, leads, same-class, asks, answers, broken}
 use Rattle.restrictive.specs.Verdict.{Violation, rule-at, violation-at, state-violation, event-violation}
 use Rattle.restrictive.specs.Sets.{led-to, reached, offer, permits, Asked, EventSets, ClassesBelow}

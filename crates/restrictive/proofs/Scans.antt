@@ -1,7 +1,7 @@
 -- A loop that looks for the first violation: it returns what it finds at i, or goes on. Assumes nothing.
 use Prim.Native.Nat.{ℕ, _+_, _<_}
 use mathlib.Core.Path.{_≡_, sym, ap, _∙_}
-use mathlib.Core.Option.{Option, none, some}
+use mathlib.Core.Option.{Option, none}
 use Rattle.bounded.specs.Search.{first}
 use Rattle.bounded.proofs.Search.{first-hit, first-more}
 use Rattle.restrictive.specs.declared.answer.Violation.{Violation}

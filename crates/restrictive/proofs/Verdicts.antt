@@ -1,17 +1,14 @@
 -- The verdict by its parts: from the rejection and from the first violation; and what an accepted record gives to the rules. Assumes nothing.
-use Prim.Native.Nat.{ℕ, _≤_, _<_}
-use mathlib.Core.Path.{_≡_, refl, sym, ap, _∙_}
+use Prim.Native.Nat.{ℕ}
+use mathlib.Core.Path.{_≡_, ap, _∙_}
 use mathlib.Core.List.{List}
 use mathlib.Core.Option.{Option, none, some}
 use native.Mathlib.Omega.{arith}
 use Rattle.words.proofs.Sets.{within-members}
-use Rattle.part.specs.Record.{states, class, row, Framed}
-use Rattle.part.specs.Rejections.{rejection, Accepted}
-use Rattle.part.specs.Answers.{says}
+use Rattle.part.specs.Record.{states, row, Framed}
+use Rattle.part.specs.Rejections.{rejection}
 use Rattle.part.proofs.Accepted.{rejection-none}
 use Rattle.part.proofs.Ranges.{ranges, frame, row-within}
-use Rattle.part.specs.declared.answer.Screening.{Screening}
-use Rattle.part.specs.declared.answer.Screening.the-variants.{Accepted as Sound, Rejected}
 use Rattle.restrictive.specs.Sets.{RowsWithin, ClassesBelow}
 use Rattle.restrictive.specs.Verdict.{Violation, refused, by-rules, after-rejection, first-violation, verdict}
 

@@ -1,11 +1,11 @@
 -- Records that tell the rules from their wrong readings (document 01, "Wrong readings").
 use Prim.Native.Nat.{ℕ, _+_, _*_}
-use mathlib.Core.Bool.{Bool, true, not, _&&_}
+use mathlib.Core.Bool.{Bool, _&&_}
 use mathlib.Core.List.{List, [], _∷_, _++_}
 use lib.Dec.{T}
 use lib.ListN.{length}
-use Rattle.words.specs.LittleEndian.{digits, each}
-use Rattle.restrictive.specs.Verdict.{Verdict, pass}
+use Rattle.words.specs.LittleEndian.{digits}
+use Rattle.restrictive.specs.Verdict.{pass}
 use Rattle.restrictive.specs.Judged.{judged, same, broken-at}
 
 -- An entry, and a record for observer 0 with start 0 from classes, entries and rows.

@@ -3,14 +3,13 @@ use Prim.Native.Nat.{ℕ, _<_}
 use mathlib.Core.Path.{_≡_}
 use mathlib.Core.Logic.{_↔_}
 use mathlib.Core.List.{List, [], _∷_}
-use mathlib.Core.Option.{some}
 use mathlib.Core.Bool.{true, false}
 use Rattle.machine.specs.Rules.{Rule, rule-1, rule-2, rule-3, rule-4, rule-5, Restrictive, Broken}
 use Rattle.machine.specs.Noninterference.{Noninterfering}
 use Rattle.part.specs.Record.{states}
 use Rattle.part.specs.Rejections.{Condition, conditions, Accepted}
 use Rattle.part.specs.Machine.{State, machine, observation}
-use Rattle.restrictive.specs.Verdict.{Violation, Verdict, pass, refused, breaks, verdict}
+use Rattle.restrictive.specs.Verdict.{Violation, pass, refused, breaks, verdict}
 
 -- A record passes exactly if no rejection applies to it and its machine is restrictive with its own partition (demand 2).
 abbrev pub PassesExactly : Type 0

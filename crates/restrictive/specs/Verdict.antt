@@ -1,7 +1,7 @@
 -- The verdict of Check on a record (document 01, "The five rules" and "Order"): the rejections, then the first violation by rule, event,
 -- s, t, u, each ascending.
 use Prim.Native.Nat.{ℕ, zero, suc}
-use mathlib.Core.Bool.{Bool, true, false, cond}
+use mathlib.Core.Bool.{cond}
 use mathlib.Core.List.{List}
 use mathlib.Core.Option.{Option, none, some}
 use Rattle.bounded.specs.Search.{first}

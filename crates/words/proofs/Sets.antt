@@ -9,8 +9,8 @@ use native.Mathlib.Decide.{decLe, decLt, ℕ-discrete as decEq}
 use native.Mathlib.Omega.{arith}
 use mathlib.Core.Bool.{and-true, and-false, or-true, or-false, or-assoc}
 use lib.Dec.{eqb, ltb, leb, lit<, eqb·suc-suc, eqb·zero-suc, eqb·suc-zero}
-use lib.Arith.{digits-mod, digits-div}
-use lib.Pow.{shr-shr, shr-lt, pow-mono, pow-pos, pow-lt, field, mod-pow-add, mod-mod-pow}
+use lib.Arith.{digits-mod}
+use lib.Pow.{shr-shr, pow-mono, pow-pos, pow-lt, field, mod-mod-pow}
 use lib.Bits.{bitAnd, bitOr, and-shr, or-shr, and-step, or-step, and-lt, or-lt, and-self}
 use lib.Count.{trailingZeros, under}
 use borrow.Author.Tests.{eqb-true, eq-eqb, ne-eqb, lt-ltb, le-ltb, leb-false, lt-leb, le-leb}

@@ -5,32 +5,22 @@ use Rattle.level.proofs.Order.{rank-above, all-common, some-missing}
 use borrow.Author.Needs.{needs}
 use Rattle.level.proofs.Level.at_or_below.Statement.{statement}
 use Rattle.level.proofs.Level.at_or_below.Tie as tie
-use Rattle.level.proofs.Level.at_or_below.Reads as reads
-use Rattle.level.proofs.Level.at_or_below.Lts as lts
-use Rattle.level.proofs.Level.compartments.Reads as compartments-reads
-use Rattle.level.proofs.Level.rank.Reads as rank-reads
 
--- src/lib.rt:30:13
 compartments-requires : tie.Need-compartments-requires
 compartments-requires c κs = search needs
 
--- src/lib.rt:31:28
 compartments-requires-2 : tie.Need-compartments-requires-2
 compartments-requires-2 c κs = search needs
 
--- src/lib.rt:32:12
 rank-requires : tie.Need-rank-requires
 rank-requires c κs = search needs
 
--- src/lib.rt:32:29
 rank-requires-2 : tie.Need-rank-requires-2
 rank-requires-2 c κs = search needs
 
--- src/lib.rt:33:13
 returns : tie.Need-returns
 returns c = sym (rank-above _ _ (omega (arith, c .before .before .rank .ensures, c .before .rank2 .ensures)))
 
--- src/lib.rt:36:13
 returns-2 : tie.Need-returns-2
 unfolding intersection
 returns-2 c =
@@ -39,7 +29,6 @@ returns-2 c =
     let test = c .if2 .taken in
     sym (all-common _ _ (omega (arith, c .before .before .before .rank .ensures, c .before .before .rank2 .ensures)) (cc))
 
--- src/lib.rt:27:5
 returns-3 : tie.Need-returns-3
 unfolding intersection
 returns-3 c =

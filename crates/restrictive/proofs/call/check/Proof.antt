@@ -6,20 +6,13 @@ use Rattle.restrictive.proofs.Verdicts.{refused-verdict, rules-verdict,
 use borrow.Author.Needs.{needs}
 use Rattle.restrictive.proofs.call.check.Statement.{statement}
 use Rattle.restrictive.proofs.call.check.Tie as tie
-use Rattle.restrictive.proofs.call.check.Reads as reads
-use Rattle.restrictive.proofs.call.check.Lts as lts
-use Rattle.part.proofs.screen.Reads as screen-reads
-use Rattle.restrictive.proofs.rules.first_violation.Reads as first-violation-reads
 
--- src/call.rt:14:9
 screen-requires : tie.Need-screen-requires
 screen-requires c κs = search needs
 
--- src/call.rt:16:29
 enum-known-screened : tie.Need-enum-known-screened
 enum-known-screened c = search needs
 
--- src/call.rt:16:35
 returns : tie.Need-returns
 unfolding means says
 returns c = sym (refused-verdict _ _ (sym (c .before .before .before .screen .ensures) ∙ ap says (c .before .screened .given .1)))
@@ -27,25 +20,20 @@ returns c = sym (refused-verdict _ _ (sym (c .before .before .before .screen .en
 enum-told : tie.Need-enum-told
 enum-told c = search needs
 
--- src/call.rt:19:9
 first-violation-requires : tie.Need-first-violation-requires
 unfolding says
 first-violation-requires c κs = ready _ (sym (c .before .before .screen .ensures) ∙ ap says (c .enum-told .given .1))
 
--- src/call.rt:21:19
 enum-known-found : tie.Need-enum-known-found
 enum-known-found c = search needs
 
--- src/call.rt:22:27
 enum-told-2 : tie.Need-enum-told-2
 enum-told-2 c = search needs
 
--- src/call.rt:11:1
 returns-2 : tie.Need-returns-2
 unfolding means says shows by-rules
 returns-2 c = sym (rules-verdict _ _ (sym (c .before .before .before .before .before .before .screen .ensures) ∙ ap says (c .before .before .before .before .enum-told .given .1)) (sym (c .before .before .before .first-violation .ensures) ∙ ap shows (c .before .found .given .1)))
 
--- src/call.rt:11:1
 returns-3 : tie.Need-returns-3
 unfolding means says shows by-rules
 returns-3 c = sym (rules-verdict _ _ (sym (c .before .before .before .before .before .screen .ensures) ∙ ap says (c .before .before .before .enum-told .given .1)) (sym (c .before .before .first-violation .ensures) ∙ ap shows (c .enum-told2 .given .1)))

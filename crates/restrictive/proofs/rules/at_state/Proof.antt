@@ -2,8 +2,8 @@ use denote.Ref.{now}
 use borrow.Author.Needs.{needs}
 use Rattle.restrictive.proofs.Scans.{found-first, nothing-more}
 use Prim.Native.Nat.{_≤_, _-_}
-use mathlib.Core.Path.{_≡_, refl, sym, ap, _∙_}
-use mathlib.Core.Option.{none, some}
+use mathlib.Core.Path.{_≡_, refl, sym, _∙_}
+use mathlib.Core.Option.{none}
 use native.Mathlib.Omega.{arith}
 use Rattle.bounded.specs.Search.{first}
 use Rattle.bounded.proofs.Search.{first-done}
@@ -13,11 +13,6 @@ use Rattle.restrictive.specs.Verdict.{violation-at, state-violation}
 use Rattle.restrictive.proofs.Offers.{all-allowed}
 use Rattle.restrictive.proofs.rules.at_state.Statement.{statement}
 use Rattle.restrictive.proofs.rules.at_state.Tie as tie
-use Rattle.restrictive.proofs.rules.at_state.Reads as reads
-use Rattle.restrictive.proofs.rules.at_state.Lts as lts
-use Rattle.part.proofs.field.Part.states.Reads as states-reads
-use Rattle.restrictive.proofs.rules.at_target.Reads as at-target-reads
-use Rattle.words.proofs.set.intersection.Reads as intersection-reads
 
 abbrev Inv-loop : tie.InvT-loop
 Inv-loop b k i s rows led offers allowed to n t₀ t = (t ≤ n) × (first t (λ v. first (states b) (violation-at b k i s v)) ≡ none)
@@ -25,49 +20,38 @@ Inv-loop b k i s rows led offers allowed to n t₀ t = (t ≤ n) × (first t (λ
 abbrev μ-loop : tie.MeasureT-loop
 μ-loop b k i s rows led offers allowed to n t₀ t = n - t
 
--- src/rules.rt:108:14
 mul-to : tie.Need-mul-to Inv-loop μ-loop
 mul-to c = omega arith
 
--- src/rules.rt:108:14
 element-copy-out-to : tie.Need-element-copy-out-to Inv-loop μ-loop
 element-copy-out-to c = omega arith
 
--- src/rules.rt:109:30
 mul-intersection : tie.Need-mul-intersection Inv-loop μ-loop
 mul-intersection c = omega arith
 
--- src/rules.rt:109:30
 element-copy-out-intersection : tie.Need-element-copy-out-intersection Inv-loop μ-loop
 element-copy-out-intersection c = omega arith
 
--- src/rules.rt:109:8
 intersection-requires : tie.Need-intersection-requires Inv-loop μ-loop
 intersection-requires c κs = tt
 
--- src/rules.rt:110:9
 returns : tie.Need-returns Inv-loop μ-loop
 unfolding shows
 returns c = sym (all-allowed _ _ _ _ _ _ _ (c .before .before .before .before .before .pre .1 .1 .1 .1) (c .before .before .before .before .before .pre .1 .0) (c .before .before .before .before .before .pre .1 .1 .1 .0 .0) (c .before .before .before .before .before .pre .1 .1 .1 .0 .1) (c .before .before .before .before .before .pre .1 .1 .1 .0 .2) _ (c .before .before .before .before .before .pre .1 .1 .0 .1) (sym (c .before .intersection .ensures) ∙ c .if1 .taken))
 
--- src/rules.rt:112:9
 states-requires : tie.Need-states-requires Inv-loop μ-loop
 states-requires c κs = omega arith
 
--- src/rules.rt:114:5
 loop-holds : tie.Need-loop-holds Inv-loop μ-loop
 unfolding first
 loop-holds c = (omega arith, refl)
 
--- src/rules.rt:115:13
 at-target-requires : tie.Need-at-target-requires Inv-loop μ-loop
 at-target-requires c κs = (c .before .before .before .before .before .before .before .before .pre .0, (c .before .before .before .before .before .before .before .before .pre .1 .0, ((c .before .before .before .before .before .before .before .before .pre .1 .1 .0 .0, c .before .before .before .before .before .before .before .before .pre .1 .1 .0 .1, omega arith), (c .before .before .before .before .before .before .before .before .pre .1 .1 .1 .0, c .before .before .before .before .before .before .before .before .pre .1 .1 .1 .1))))
 
--- src/rules.rt:117:29
 enum-told : tie.Need-enum-told Inv-loop μ-loop
 enum-told c = search needs
 
--- src/rules.rt:117:29
 returns-2 : tie.Need-returns-2 Inv-loop μ-loop
 unfolding state-violation
 returns-2 c = found-first (λ v. first (states (now (c .before .before .before .before .before .before .before .before .before .before .before .args .b))) (violation-at (now (c .before .before .before .before .before .before .before .before .before .before .before .args .b)) (c .before .before .before .before .before .before .before .before .before .before .before .args .k) (c .before .before .before .before .before .before .before .before .before .before .before .args .i) (c .before .before .before .before .before .before .before .before .before .before .before .args .s) v)) (c .before .before .before .before .loop .t) _ (c .before .before .at-target .ensures) (c .before .before .before .before .loop .inv .1) _ _ (c .enum-told .given .1) (omega arith)
@@ -75,19 +59,15 @@ returns-2 c = found-first (λ v. first (states (now (c .before .before .before .
 enum-told-2 : tie.Need-enum-told-2 Inv-loop μ-loop
 enum-told-2 c = search needs
 
--- src/rules.rt:120:9
 add-t : tie.Need-add-t Inv-loop μ-loop
 add-t c = omega arith
 
--- src/rules.rt:114:5
 loop-less : tie.Need-loop-less Inv-loop μ-loop
 loop-less c = omega arith
 
--- src/rules.rt:114:5
 loop-again : tie.Need-loop-again Inv-loop μ-loop
 loop-again c = (omega arith, nothing-more (λ v. first (states (now (c .before .before .before .before .before .before .before .before .before .before .before .args .b))) (violation-at (now (c .before .before .before .before .before .before .before .before .before .before .before .args .b)) (c .before .before .before .before .before .before .before .before .before .before .before .args .k) (c .before .before .before .before .before .before .before .before .before .before .before .args .i) (c .before .before .before .before .before .before .before .before .before .before .before .args .s) v)) (c .before .before .before .before .loop .t) _ (c .before .before .at-target .ensures) (c .before .before .before .before .loop .inv .1) (c .enum-told2 .given .1))
 
--- src/rules.rt:100:1
 returns-3 : tie.Need-returns-3 Inv-loop μ-loop
 unfolding shows state-violation
 returns-3 c = sym (first-done (λ v. first (states (now (c .before .before .before .before .before .before .before .before .args .b))) (violation-at (now (c .before .before .before .before .before .before .before .before .args .b)) (c .before .before .before .before .before .before .before .before .args .k) (c .before .before .before .before .before .before .before .before .args .i) (c .before .before .before .before .before .before .before .before .args .s) v)) _ _ (omega arith) (c .before .loop .inv .1))

@@ -7,65 +7,46 @@ use borrow.Author.Tests.{not-true, not-false}
 use borrow.Author.Needs.{needs}
 use Rattle.restrictive.proofs.rules.at_target.Statement.{statement}
 use Rattle.restrictive.proofs.rules.at_target.Tie as tie
-use Rattle.restrictive.proofs.rules.at_target.Reads as reads
-use Rattle.restrictive.proofs.rules.at_target.Lts as lts
-use Rattle.part.proofs.field.Part.class.Reads as class-reads
-use Rattle.restrictive.proofs.rules.other.Reads as other-reads
-use Rattle.restrictive.proofs.rules.violation.Reads as violation-reads
-use Rattle.words.proofs.set.contains.Reads as contains-reads
 
--- src/rules.rt:87:23
 mul-contains : tie.Need-mul-contains
 mul-contains c = search needs
 
--- src/rules.rt:87:23
 element-copy-out-contains : tie.Need-element-copy-out-contains
 element-copy-out-contains c = search needs
 
--- src/rules.rt:87:9
 contains-requires : tie.Need-contains-requires
 contains-requires c κs = search needs
 
--- src/rules.rt:88:9
 returns : tie.Need-returns
 unfolding shows
 returns c = sym (no-step _ _ _ _ _ _ _ (c .before .before .before .before .pre .1 .1 .1 .1) (c .before .before .before .before .pre .1 .0) (c .before .before .before .before .pre .1 .1 .1 .0 .0) (c .before .before .before .before .pre .1 .1 .1 .0 .1) (c .before .before .before .before .pre .1 .1 .1 .0 .2) _ _ (c .before .before .before .before .pre .1 .1 .0 .1) (sym (c .before .contains .ensures) ∙ not-true _ (c .if1 .taken)))
 
--- src/rules.rt:90:22
 mul-contains-2 : tie.Need-mul-contains-2
 mul-contains-2 c = search needs
 
--- src/rules.rt:90:22
 element-copy-out-contains-2 : tie.Need-element-copy-out-contains-2
 element-copy-out-contains-2 c = search needs
 
--- src/rules.rt:90:34
 class-requires : tie.Need-class-requires
 class-requires c κs = search needs
 
--- src/rules.rt:90:8
 contains-requires-2 : tie.Need-contains-requires-2
 contains-requires-2 c κs = omega (arith, c .before .before .before .before .before .before .pre .1 .0 (c .before .before .before .before .before .before .args .t) (omega arith))
 
--- src/rules.rt:91:9
 returns-2 : tie.Need-returns-2
 unfolding shows
 returns-2 c = sym (allowed-step _ _ _ _ _ _ _ (c .before .before .before .before .before .before .before .before .pre .1 .1 .1 .1) (c .before .before .before .before .before .before .before .before .pre .1 .0) (c .before .before .before .before .before .before .before .before .pre .1 .1 .1 .0 .0) (c .before .before .before .before .before .before .before .before .pre .1 .1 .1 .0 .1) (c .before .before .before .before .before .before .before .before .pre .1 .1 .1 .0 .2) _ _ (c .before .before .before .before .before .before .before .before .pre .1 .1 .0 .1) (c .before .before .before .before .before .before .before .before .pre .1 .1 .0 .2) (sym (c .before .before .before .before .before .contains .ensures) ∙ not-false _ (c .before .before .before .before .if1 .left)) (rw (c .before .before .class .ensures .0) at (sym (c .before .contains2 .ensures) ∙ c .if2 .taken)))
 
--- src/rules.rt:94:26
 violation-requires : tie.Need-violation-requires
 violation-requires c κs = search needs
 
--- src/rules.rt:94:9
 returns-3 : tie.Need-returns-3
 unfolding shows
 returns-3 c = ap some (c .violation .ensures) ∙ sym (leaving _ _ _ _ _ _ _ (c .before .before .before .before .before .before .before .before .before .before .pre .1 .1 .1 .1) (c .before .before .before .before .before .before .before .before .before .before .pre .1 .0) (c .before .before .before .before .before .before .before .before .before .before .pre .1 .1 .1 .0 .0) (c .before .before .before .before .before .before .before .before .before .before .pre .1 .1 .1 .0 .1) (c .before .before .before .before .before .before .before .before .before .before .pre .1 .1 .1 .0 .2) (c .before .if3 .taken) (c .before .before .before .before .before .before .before .before .before .before .pre .0 .one-state) _ _ (c .before .before .before .before .before .before .before .before .before .before .pre .1 .1 .0 .1) (c .before .before .before .before .before .before .before .before .before .before .pre .1 .1 .0 .2) (sym (c .before .before .before .before .before .before .before .contains .ensures) ∙ not-false _ (c .before .before .before .before .before .before .if1 .left)) (rw (c .before .before .before .before .class .ensures .0) at (sym (c .before .before .before .contains2 .ensures) ∙ c .before .before .if2 .left)))
 
--- src/rules.rt:96:5
 other-requires : tie.Need-other-requires
 other-requires c κs = (c .before .before .before .before .before .before .before .before .before .pre .0, (c .before .before .before .before .before .before .before .before .before .pre .1 .0, (c .before .before .before .before .before .before .before .before .before .pre .1 .1 .0, ((omega arith, c .before .before .before .before .before .before .before .before .before .pre .1 .1 .1 .0 .1), ((c .before .before .before .before .before .before .before .before .before .pre .1 .1 .1 .0 .2, sym (c .before .before .before .before .before .before .before .before .before .pre .1 .1 .1 .1 .leading _ (c .before .before .before .before .before .before .before .before .before .pre .1 .1 .0 .1) _) ∙ (sym (c .before .before .before .before .before .before .contains .ensures) ∙ not-false _ (c .before .before .before .before .before .if1 .left))), c .before .before .before .before .before .before .before .before .before .pre .1 .1 .1 .1 .offering)))))
 
--- src/rules.rt:79:1
 returns-4 : tie.Need-returns-4
 returns-4 c = search needs
 

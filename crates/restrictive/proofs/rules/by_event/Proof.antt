@@ -7,55 +7,35 @@ use Rattle.restrictive.proofs.Offers.{none-by}
 use Rattle.restrictive.proofs.Answering.{event-sets}
 use Rattle.restrictive.proofs.rules.by_event.Statement.{statement}
 use Rattle.restrictive.proofs.rules.by_event.Tie as tie
-use Rattle.restrictive.proofs.rules.by_event.Reads as reads
-use Rattle.restrictive.proofs.rules.by_event.Lts as lts
-use Rattle.part.proofs.field.Part.states.Reads as states-reads
-use Rattle.restrictive.proofs.event.concerned.Reads as concerned-reads
-use Rattle.restrictive.proofs.event.rows.Reads as rows-reads
-use Rattle.restrictive.proofs.rules.allowed_of.Reads as allowed-of-reads
-use Rattle.restrictive.proofs.rules.by_row.Reads as by-row-reads
-use Rattle.restrictive.proofs.rules.by_sets.Reads as by-sets-reads
-use Rattle.restrictive.proofs.rules.offers_of.Reads as offers-of-reads
-use Rattle.words.proofs.set.gather_each.Reads as gather-each-reads
 
--- src/rules.rt:203:9
 concerned-requires : tie.Need-concerned-requires
 concerned-requires c κs = (c .before .pre .0, (c .before .pre .1 .1 .0 .0, c .before .pre .1 .1 .0 .1))
 
--- src/rules.rt:204:9
 returns : tie.Need-returns
 unfolding shows
 returns c = sym (none-by _ _ _ (c .before .before .before .pre .1 .1 .0 .1) (sym (c .before .concerned .ensures) ∙ not-true _ (c .if1 .taken)))
 
--- src/rules.rt:207:9
 by-row-requires : tie.Need-by-row-requires
 by-row-requires c κs = (c .before .before .before .before .pre .0, (c .before .before .before .before .pre .1 .0 .0, (c .before .before .before .before .pre .1 .1 .0 .0, rw (c .if2 .taken) at (sym (c .before .before .concerned .ensures) ∙ not-false _ (c .before .if1 .left)))))
 
--- src/rules.rt:207:9
 returns-2 : tie.Need-returns-2
 returns-2 c = rw (c .before .if2 .taken) (c .by-row .ensures)
 
--- src/rules.rt:209:9
 states-requires : tie.Need-states-requires
 states-requires c κs = omega arith
 
--- src/rules.rt:210:16
 rows-requires : tie.Need-rows-requires
 rows-requires c κs = (c .before .before .before .before .before .pre .0, c .before .before .before .before .before .pre .1 .1 .0 .0)
 
--- src/rules.rt:211:15
 gather-each-requires : tie.Need-gather-each-requires
 gather-each-requires c κs = omega arith
 
--- src/rules.rt:212:18
 offers-of-requires : tie.Need-offers-of-requires
 offers-of-requires c κs = omega arith
 
--- src/rules.rt:213:19
 allowed-of-requires : tie.Need-allowed-of-requires
 allowed-of-requires c κs = (c .before .before .before .before .before .before .before .before .before .before .before .before .pre .0, c .before .before .before .before .before .before .before .before .before .before .before .before .pre .1 .0 .1)
 
--- src/rules.rt:214:5
 by-sets-requires : tie.Need-by-sets-requires
 by-sets-requires c κs =
     let one : 1 ≤ c .before .before .before .before .before .before .before .before .before .before .before .before .before .before .before .before .before .args .k = omega (arith, c .before .before .before .before .before .before .before .before .before .before .before .before .before .if2 .left) in
@@ -73,7 +53,6 @@ by-sets-requires c κs =
       ),
     )
 
--- src/rules.rt:196:1
 returns-3 : tie.Need-returns-3
 returns-3 c = c .by-sets .ensures
 

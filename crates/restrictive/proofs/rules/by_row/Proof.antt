@@ -9,11 +9,6 @@ use Rattle.restrictive.specs.Verdict.{state-violation, event-violation}
 use Rattle.restrictive.proofs.Offers.{stepless, has-step}
 use Rattle.restrictive.proofs.rules.by_row.Statement.{statement}
 use Rattle.restrictive.proofs.rules.by_row.Tie as tie
-use Rattle.restrictive.proofs.rules.by_row.Reads as reads
-use Rattle.restrictive.proofs.rules.by_row.Lts as lts
-use Rattle.part.proofs.field.Part.row.Reads as row-reads
-use Rattle.part.proofs.field.Part.states.Reads as states-reads
-use Rattle.restrictive.proofs.rules.violation.Reads as violation-reads
 
 abbrev Inv-loop : tie.InvT-loop
 Inv-loop b i n s₀ s = (s ≤ n) × (first s (state-violation b 0 i) ≡ none)
@@ -21,41 +16,32 @@ Inv-loop b i n s₀ s = (s ≤ n) × (first s (state-violation b 0 i) ≡ none)
 abbrev μ-loop : tie.MeasureT-loop
 μ-loop b i n s₀ s = n - s
 
--- src/rules.rt:155:9
 states-requires : tie.Need-states-requires Inv-loop μ-loop
 states-requires c κs = omega arith
 
--- src/rules.rt:157:5
 loop-holds : tie.Need-loop-holds Inv-loop μ-loop
 unfolding first
 loop-holds c = (omega arith, refl)
 
--- src/rules.rt:158:12
 row-requires : tie.Need-row-requires Inv-loop μ-loop
 row-requires c κs = (c .before .before .before .before .pre .0, (c .before .before .before .before .pre .1 .1 .0, omega arith))
 
--- src/rules.rt:159:30
 violation-requires : tie.Need-violation-requires Inv-loop μ-loop
 violation-requires c κs = (c .before .before .before .before .before .before .pre .0, (c .before .before .before .before .before .before .pre .1 .1 .0, omega arith))
 
--- src/rules.rt:159:13
 returns : tie.Need-returns Inv-loop μ-loop
 unfolding shows event-violation
 returns c = ap some (c .violation .ensures) ∙ sym (first-hit (state-violation _ 0 _) _ (c .before .before .before .before .loop .s) _ (omega arith) (c .before .before .before .before .loop .inv .1) (stepless _ _ _ (c .before .before .before .before .before .before .before .pre .1 .1 .1) (c .before .before .before .before .before .before .before .pre .0 .one-state) (sym (c .before .before .row .ensures) ∙ c .before .if1 .taken)))
 
--- src/rules.rt:161:9
 add-s : tie.Need-add-s Inv-loop μ-loop
 add-s c = omega arith
 
--- src/rules.rt:157:5
 loop-less : tie.Need-loop-less Inv-loop μ-loop
 loop-less c = omega arith
 
--- src/rules.rt:157:5
 loop-again : tie.Need-loop-again Inv-loop μ-loop
 loop-again c = (omega arith, first-more (state-violation _ 0 _) (c .before .before .before .loop .s) (c .before .before .before .loop .inv .1) (has-step _ _ _ (c .before .before .before .before .before .before .pre .1 .1 .1) (λ t l. c .before .before .before .before .before .before .pre .1 .0 _ _ t (c .before .before .before .before .before .before .pre .1 .1 .0) (omega arith) l) (λ e. c .if1 .left (c .before .row .ensures ∙ e))))
 
--- src/rules.rt:148:1
 returns-2 : tie.Need-returns-2 Inv-loop μ-loop
 unfolding shows event-violation
 returns-2 c = sym (first-done (state-violation _ 0 _) _ _ (omega arith) (c .before .loop .inv .1))

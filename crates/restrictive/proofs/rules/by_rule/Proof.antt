@@ -10,10 +10,6 @@ use Rattle.restrictive.specs.Verdict.{event-violation, rule-violation}
 use Rattle.restrictive.proofs.Scans.{found-first, nothing-more}
 use Rattle.restrictive.proofs.rules.by_rule.Statement.{statement}
 use Rattle.restrictive.proofs.rules.by_rule.Tie as tie
-use Rattle.restrictive.proofs.rules.by_rule.Reads as reads
-use Rattle.restrictive.proofs.rules.by_rule.Lts as lts
-use Rattle.part.proofs.field.Part.events.Reads as events-reads
-use Rattle.restrictive.proofs.rules.by_event.Reads as by-event-reads
 
 abbrev Inv-loop : tie.InvT-loop
 Inv-loop b k closure classes own m i₀ i = (i ≤ m) × (first i (event-violation b k) ≡ none)
@@ -21,24 +17,19 @@ Inv-loop b k closure classes own m i₀ i = (i ≤ m) × (first i (event-violati
 abbrev μ-loop : tie.MeasureT-loop
 μ-loop b k closure classes own m i₀ i = m - i
 
--- src/rules.rt:224:9
 events-requires : tie.Need-events-requires Inv-loop μ-loop
 events-requires c κs = omega arith
 
--- src/rules.rt:226:5
 loop-holds : tie.Need-loop-holds Inv-loop μ-loop
 unfolding first
 loop-holds c = (omega arith, refl)
 
--- src/rules.rt:227:13
 by-event-requires : tie.Need-by-event-requires Inv-loop μ-loop
 by-event-requires c κs = (c .before .before .before .before .pre .0, (c .before .before .before .before .pre .1 .0, ((omega arith, c .before .before .before .before .pre .1 .1 .0), c .before .before .before .before .pre .1 .1 .1)))
 
--- src/rules.rt:229:29
 enum-told : tie.Need-enum-told Inv-loop μ-loop
 enum-told c = search needs
 
--- src/rules.rt:229:29
 returns : tie.Need-returns Inv-loop μ-loop
 unfolding rule-violation
 returns c = found-first (event-violation _ _) (c .before .before .before .before .loop .i) _ (c .before .before .by-event .ensures) (c .before .before .before .before .loop .inv .1) _ _ (c .enum-told .given .1) (omega arith)
@@ -46,19 +37,15 @@ returns c = found-first (event-violation _ _) (c .before .before .before .before
 enum-told-2 : tie.Need-enum-told-2 Inv-loop μ-loop
 enum-told-2 c = search needs
 
--- src/rules.rt:232:9
 add-i : tie.Need-add-i Inv-loop μ-loop
 add-i c = omega arith
 
--- src/rules.rt:226:5
 loop-less : tie.Need-loop-less Inv-loop μ-loop
 loop-less c = omega arith
 
--- src/rules.rt:226:5
 loop-again : tie.Need-loop-again Inv-loop μ-loop
 loop-again c = (omega arith, nothing-more (event-violation _ _) (c .before .before .before .before .loop .i) _ (c .before .before .by-event .ensures) (c .before .before .before .before .loop .inv .1) (c .enum-told2 .given .1))
 
--- src/rules.rt:217:1
 returns-2 : tie.Need-returns-2 Inv-loop μ-loop
 unfolding shows rule-violation
 returns-2 c = sym (first-done (event-violation _ _) _ _ (omega arith) (c .before .loop .inv .1))

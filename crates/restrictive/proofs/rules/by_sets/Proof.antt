@@ -1,6 +1,6 @@
 use Prim.Native.Nat.{_≤_, _-_}
 use mathlib.Core.Path.{_≡_, refl, sym}
-use mathlib.Core.Option.{none, some}
+use mathlib.Core.Option.{none}
 use native.Mathlib.Omega.{arith}
 use borrow.Author.Needs.{needs}
 use Rattle.bounded.specs.Search.{first}
@@ -10,10 +10,6 @@ use Rattle.restrictive.specs.Verdict.{state-violation, event-violation}
 use Rattle.restrictive.proofs.Scans.{found-first, nothing-more}
 use Rattle.restrictive.proofs.rules.by_sets.Statement.{statement}
 use Rattle.restrictive.proofs.rules.by_sets.Tie as tie
-use Rattle.restrictive.proofs.rules.by_sets.Reads as reads
-use Rattle.restrictive.proofs.rules.by_sets.Lts as lts
-use Rattle.part.proofs.field.Part.states.Reads as states-reads
-use Rattle.restrictive.proofs.rules.at_state.Reads as at-state-reads
 
 abbrev Inv-loop : tie.InvT-loop
 Inv-loop b k i rows led offers allowed n s₀ s = (s ≤ n) × (first s (state-violation b k i) ≡ none)
@@ -21,24 +17,19 @@ Inv-loop b k i rows led offers allowed n s₀ s = (s ≤ n) × (first s (state-v
 abbrev μ-loop : tie.MeasureT-loop
 μ-loop b k i rows led offers allowed n s₀ s = n - s
 
--- src/rules.rt:134:9
 states-requires : tie.Need-states-requires Inv-loop μ-loop
 states-requires c κs = omega arith
 
--- src/rules.rt:136:5
 loop-holds : tie.Need-loop-holds Inv-loop μ-loop
 unfolding first
 loop-holds c = (omega arith, refl)
 
--- src/rules.rt:137:13
 at-state-requires : tie.Need-at-state-requires Inv-loop μ-loop
 at-state-requires c κs = (c .before .before .before .before .pre .0, (c .before .before .before .before .pre .1 .0, ((c .before .before .before .before .pre .1 .1 .0, omega arith), (c .before .before .before .before .pre .1 .1 .1 .0, c .before .before .before .before .pre .1 .1 .1 .1))))
 
--- src/rules.rt:139:29
 enum-told : tie.Need-enum-told Inv-loop μ-loop
 enum-told c = search needs
 
--- src/rules.rt:139:29
 returns : tie.Need-returns Inv-loop μ-loop
 unfolding event-violation
 returns c = found-first (state-violation _ _ _) (c .before .before .before .before .loop .s) _ (c .before .before .at-state .ensures) (c .before .before .before .before .loop .inv .1) _ _ (c .enum-told .given .1) (omega arith)
@@ -46,19 +37,15 @@ returns c = found-first (state-violation _ _ _) (c .before .before .before .befo
 enum-told-2 : tie.Need-enum-told-2 Inv-loop μ-loop
 enum-told-2 c = search needs
 
--- src/rules.rt:142:9
 add-s : tie.Need-add-s Inv-loop μ-loop
 add-s c = omega arith
 
--- src/rules.rt:136:5
 loop-less : tie.Need-loop-less Inv-loop μ-loop
 loop-less c = omega arith
 
--- src/rules.rt:136:5
 loop-again : tie.Need-loop-again Inv-loop μ-loop
 loop-again c = (omega arith, nothing-more (state-violation _ _ _) (c .before .before .before .before .loop .s) _ (c .before .before .at-state .ensures) (c .before .before .before .before .loop .inv .1) (c .enum-told2 .given .1))
 
--- src/rules.rt:126:1
 returns-2 : tie.Need-returns-2 Inv-loop μ-loop
 unfolding shows event-violation
 returns-2 c = sym (first-done (state-violation _ _ _) _ _ (omega arith) (c .before .loop .inv .1))

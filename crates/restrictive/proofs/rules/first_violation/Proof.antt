@@ -11,13 +11,6 @@ use Rattle.restrictive.proofs.Scans.{found-first, nothing-more}
 use Rattle.restrictive.proofs.Answering.{record-sets}
 use Rattle.restrictive.proofs.rules.first_violation.Statement.{statement}
 use Rattle.restrictive.proofs.rules.first_violation.Tie as tie
-use Rattle.restrictive.proofs.rules.first_violation.Reads as reads
-use Rattle.restrictive.proofs.rules.first_violation.Lts as lts
-use Rattle.part.proofs.field.Part.states.Reads as states-reads
-use Rattle.restrictive.proofs.classes.singles.Reads as singles-reads
-use Rattle.restrictive.proofs.rules.by_rule.Reads as by-rule-reads
-use Rattle.restrictive.proofs.silent.closure.Reads as closure-reads
-use Rattle.words.proofs.set.gather_each.Reads as gather-each-reads
 
 abbrev Inv-loop : tie.InvT-loop
 Inv-loop b n own closure classes k₀ k = (k ≤ 5) × (first k (rule-violation b) ≡ none)
@@ -25,36 +18,28 @@ Inv-loop b n own closure classes k₀ k = (k ≤ 5) × (first k (rule-violation 
 abbrev μ-loop : tie.MeasureT-loop
 μ-loop b n own closure classes k₀ k = 5 - k
 
--- src/rules.rt:243:9
 states-requires : tie.Need-states-requires Inv-loop μ-loop
 states-requires c κs = omega arith
 
--- src/rules.rt:244:15
 singles-requires : tie.Need-singles-requires Inv-loop μ-loop
 singles-requires c κs = (c .before .before .pre .0, c .before .before .pre .1 .1)
 
--- src/rules.rt:245:19
 closure-requires : tie.Need-closure-requires Inv-loop μ-loop
 closure-requires c κs = c .before .before .before .pre .0
 
--- src/rules.rt:246:19
 gather-each-requires : tie.Need-gather-each-requires Inv-loop μ-loop
 gather-each-requires c κs = omega arith
 
--- src/rules.rt:248:5
 loop-holds : tie.Need-loop-holds Inv-loop μ-loop
 unfolding first
 loop-holds c = (omega arith, refl)
 
--- src/rules.rt:249:13
 by-rule-requires : tie.Need-by-rule-requires Inv-loop μ-loop
 by-rule-requires c κs = (c .before .before .before .before .before .before .before .before .before .before .before .before .pre .0, (c .before .before .before .before .before .before .before .before .before .before .before .before .pre .1, (omega arith, record-sets _ _ _ _ _ (c .before .before .before .before .before .before .before .before .before .before .states .ensures .0) (c .before .before .before .before .before .before .before .before .closure .ensures) (c .before .before .before .before .before .before .before .before .before .singles .ensures) (c .before .before .before .before .before .gather-each .ensures))))
 
--- src/rules.rt:251:29
 enum-told : tie.Need-enum-told Inv-loop μ-loop
 enum-told c = search needs
 
--- src/rules.rt:251:29
 returns : tie.Need-returns Inv-loop μ-loop
 unfolding first-violation
 returns c = found-first (rule-violation _) (c .before .before .before .before .before .before .before .loop .k) _ (c .before .before .by-rule .ensures) (c .before .before .before .before .before .before .before .loop .inv .1) _ _ (c .enum-told .given .1) (omega arith)
@@ -62,19 +47,15 @@ returns c = found-first (rule-violation _) (c .before .before .before .before .b
 enum-told-2 : tie.Need-enum-told-2 Inv-loop μ-loop
 enum-told-2 c = search needs
 
--- src/rules.rt:254:9
 add-k : tie.Need-add-k Inv-loop μ-loop
 add-k c = omega arith
 
--- src/rules.rt:248:5
 loop-less : tie.Need-loop-less Inv-loop μ-loop
 loop-less c = omega arith
 
--- src/rules.rt:248:5
 loop-again : tie.Need-loop-again Inv-loop μ-loop
 loop-again c = (omega arith, nothing-more (rule-violation _) (c .before .before .before .before .before .before .before .loop .k) _ (c .before .before .by-rule .ensures) (c .before .before .before .before .before .before .before .loop .inv .1) (c .enum-told2 .given .1))
 
--- src/rules.rt:238:1
 returns-2 : tie.Need-returns-2 Inv-loop μ-loop
 unfolding shows first-violation
 returns-2 c = sym (first-done (rule-violation _) _ _ (omega arith) (c .before .loop .inv .1))

@@ -10,11 +10,6 @@ use Rattle.restrictive.specs.Verdict.{violation-at}
 use Rattle.restrictive.proofs.Offers.{broken-by-set, violated, not-violated}
 use Rattle.restrictive.proofs.rules.other.Statement.{statement}
 use Rattle.restrictive.proofs.rules.other.Tie as tie
-use Rattle.restrictive.proofs.rules.other.Reads as reads
-use Rattle.restrictive.proofs.rules.other.Lts as lts
-use Rattle.part.proofs.field.Part.states.Reads as states-reads
-use Rattle.restrictive.proofs.rules.fails.Reads as fails-reads
-use Rattle.restrictive.proofs.rules.violation.Reads as violation-reads
 
 abbrev Inv-loop : tie.InvT-loop
 Inv-loop b k i s t offers n u₀ u = (u ≤ n) × (first u (violation-at b k i s t) ≡ none)
@@ -22,41 +17,32 @@ Inv-loop b k i s t offers n u₀ u = (u ≤ n) × (first u (violation-at b k i s
 abbrev μ-loop : tie.MeasureT-loop
 μ-loop b k i s t offers n u₀ u = n - u
 
--- src/rules.rt:61:9
 states-requires : tie.Need-states-requires Inv-loop μ-loop
 states-requires c κs = omega arith
 
--- src/rules.rt:63:5
 loop-holds : tie.Need-loop-holds Inv-loop μ-loop
 unfolding first
 loop-holds c = (omega arith, refl)
 
--- src/rules.rt:64:12
 fails-requires : tie.Need-fails-requires Inv-loop μ-loop
 fails-requires c κs = (c .before .before .before .before .pre .0, (c .before .before .before .before .pre .1 .0, (omega arith, omega arith, omega arith)))
 
--- src/rules.rt:65:30
 violation-requires : tie.Need-violation-requires Inv-loop μ-loop
 violation-requires c κs = (c .before .before .before .before .before .before .pre .0, (c .before .before .before .before .before .before .pre .1 .1 .0 .0, c .before .before .before .before .before .before .pre .1 .1 .1 .0 .1))
 
--- src/rules.rt:65:13
 returns : tie.Need-returns Inv-loop μ-loop
 unfolding shows
 returns c = ap some (c .violation .ensures) ∙ sym (first-hit (violation-at _ _ _ _ _) _ (c .before .before .before .before .loop .u) _ (omega arith) (c .before .before .before .before .loop .inv .1) (violated _ _ _ _ _ (c .before .before .before .before .loop .u) (broken-by-set _ _ _ _ _ (c .before .before .before .before .loop .u) (now (c .before .before .before .before .before .before .before .args .offers)) (c .before .before .before .before .before .before .before .pre .1 .1 .1 .0 .0) (c .before .before .before .before .before .before .before .pre .1 .1 .1 .0 .1) (c .before .before .before .before .before .before .before .pre .1 .1 .1 .1 .0) (c .before .before .before .before .before .before .before .pre .1 .1 .1 .1 .1) (omega arith) ∙ sym (c .before .before .fails .ensures) ∙ c .before .if1 .taken)))
 
--- src/rules.rt:67:9
 add-u : tie.Need-add-u Inv-loop μ-loop
 add-u c = omega arith
 
--- src/rules.rt:63:5
 loop-less : tie.Need-loop-less Inv-loop μ-loop
 loop-less c = omega arith
 
--- src/rules.rt:63:5
 loop-again : tie.Need-loop-again Inv-loop μ-loop
 loop-again c = (omega arith, first-more (violation-at _ _ _ _ _) (c .before .before .before .loop .u) (c .before .before .before .loop .inv .1) (not-violated _ _ _ _ _ (c .before .before .before .loop .u) (broken-by-set _ _ _ _ _ (c .before .before .before .loop .u) (now (c .before .before .before .before .before .before .args .offers)) (c .before .before .before .before .before .before .pre .1 .1 .1 .0 .0) (c .before .before .before .before .before .before .pre .1 .1 .1 .0 .1) (c .before .before .before .before .before .before .pre .1 .1 .1 .1 .0) (c .before .before .before .before .before .before .pre .1 .1 .1 .1 .1) (omega arith) ∙ sym (c .before .fails .ensures) ∙ c .if1 .left)))
 
--- src/rules.rt:53:1
 returns-2 : tie.Need-returns-2 Inv-loop μ-loop
 unfolding shows
 returns-2 c = sym (first-done _ _ _ (omega arith) (c .before .loop .inv .1))

@@ -2,19 +2,13 @@ use Rattle.restrictive.specs.Tests.{same-class}
 use borrow.Author.Needs.{needs}
 use Rattle.restrictive.proofs.rules.same_class.Statement.{statement}
 use Rattle.restrictive.proofs.rules.same_class.Tie as tie
-use Rattle.restrictive.proofs.rules.same_class.Reads as reads
-use Rattle.restrictive.proofs.rules.same_class.Lts as lts
-use Rattle.part.proofs.field.Part.class.Reads as class-reads
 
--- src/rules.rt:42:5
 class-requires : tie.Need-class-requires
 class-requires c κs = search needs
 
--- src/rules.rt:42:26
 class-requires-2 : tie.Need-class-requires-2
 class-requires-2 c κs = search needs
 
--- src/rules.rt:37:1
 returns : tie.Need-returns
 unfolding same-class
 returns c = let x = c .before .class .ensures .0 in let y = c .class2 .ensures .0 in cc

@@ -3,19 +3,13 @@ use native.Mathlib.Numerals.{add-one}
 use borrow.Author.Needs.{needs}
 use Rattle.restrictive.proofs.rules.violation.Statement.{statement}
 use Rattle.restrictive.proofs.rules.violation.Tie as tie
-use Rattle.restrictive.proofs.rules.violation.Reads as reads
-use Rattle.restrictive.proofs.rules.violation.Lts as lts
-use Rattle.part.proofs.field.Part.identifier.Reads as identifier-reads
 
--- src/rules.rt:28:15
 add-t7 : tie.Need-add-t7
 add-t7 c = search needs
 
--- src/rules.rt:29:16
 identifier-requires : tie.Need-identifier-requires
 identifier-requires c κs = search needs
 
--- src/rules.rt:21:1
 returns : tie.Need-returns
 unfolding named
 returns c = let e = c .identifier .ensures .0 in let q = add-one (c .before .before .args .k) in cc

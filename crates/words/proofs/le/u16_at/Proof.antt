@@ -5,31 +5,22 @@ use Rattle.words.specs.LittleEndian.{number}
 use borrow.Author.Needs.{needs}
 use Rattle.words.proofs.le.u16_at.Statement.{statement}
 use Rattle.words.proofs.le.u16_at.Tie as tie
-use Rattle.words.proofs.le.u16_at.Reads as reads
-use Rattle.words.proofs.le.u16_at.Lts as lts
-use Rattle.words.proofs.le.u8_at.Reads as u8-at-reads
 
--- src/le.rt:20:5
 u8-at-requires : tie.Need-u8-at-requires
 u8-at-requires c κs = search needs
 
--- src/le.rt:20:35
 add-u8-at : tie.Need-add-u8-at
 add-u8-at c = search needs
 
--- src/le.rt:20:26
 u8-at-requires-2 : tie.Need-u8-at-requires-2
 u8-at-requires-2 c κs = search needs
 
--- src/le.rt:20:20
 mul-result : tie.Need-mul-result
 mul-result c = search needs
 
--- src/le.rt:20:5
 add-result : tie.Need-add-result
 add-result c = search needs
 
--- src/le.rt:15:1
 returns : tie.Need-returns
 unfolding number
 returns c = omega (arith, number-split 1 1 (now (c .before .before .before .args .s)) (c .before .before .before .args .at))
