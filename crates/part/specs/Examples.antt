@@ -4,51 +4,18 @@ use Prim.Native.Nat.{ℕ}
 use mathlib.Core.Path.{_≡_, refl}
 use mathlib.Core.Bool.{Bool, true, _&&_}
 use mathlib.Core.List.{List, [], _∷_, _++_}
-use mathlib.Core.Option.{none, some}
+use mathlib.Core.Option.{some}
 use lib.Dec.{T, eqb}
 use lib.ListN.{take, set}
-use Rattle.bounded.specs.Search.{any, first, or-else}
+use Rattle.bounded.specs.Search.{first, or-else}
 use Rattle.machine.specs.Machine.{input, output, Event, absent, event}
-use Rattle.words.specs.Sets.{exceeds}
 use Rattle.words.specs.LittleEndian.{number, digits, each}
-use Rattle.part.specs.Record.{
-  body-length,
-  kind,
-  states,
-  start,
-  events,
-  class,
-  classes-below,
-  entry-at,
-  identifier,
-  event-kind,
-  level,
-  row-at,
-  row,
-  body-size,
-}
-use Rattle.part.specs.Rejections.{
-  too-short,
-  wrong-length,
-  wrong-kind,
-  out-of-range,
-  wrong-size,
-  skips-at,
-  misnumbered,
-  falls-at,
-  falling,
-  unknown-at,
-  unknown-kind,
-  misordered,
-  strays-at,
-  row-strays,
-  stray-bit,
-  first-of,
-  rejection,
-}
-use Rattle.part.specs.Layout.{body, size, layout}
+use Rattle.part.specs.Record.{kind, states, start, events, class, entry-at, identifier, event-kind, level, row}
+use Rattle.part.specs.Rejections.{falling}
+use Rattle.part.specs.Layout.{body, layout}
 use Rattle.part.specs.Machine.{kind-of, at-place, place, event-of}
 use Rattle.part.specs.Samples.{P, Z}
+use Rattle.part.specs.Computed.{rejected-with}
 
 -- A record of n states, all of one class, with m inputs 0, 1, .. of level 0 that stay where they are.
 abbrev staying : ℕ → ℕ → List ℕ
@@ -64,11 +31,6 @@ staying n m = layout (record {
   row = λ i s. 1;
 })
 
--- The number that a record is rejected with; 0 where it is accepted.
-unfoldable said : List ℕ → ℕ
-unfolding rejection first-of too-short wrong-length wrong-kind out-of-range wrong-size misnumbered skips-at misordered falling falls-at unknown-kind unknown-at stray-bit row-strays strays-at body-length kind states start events class classes-below entry-at identifier event-kind level row-at row body-size any exceeds number digits each layout body size
-said b = elim (rejection b) [ none ↦ 0 | some k ↦ k ]
-
 -- A number, and a record that is rejected with it.
 record Line : Type 0 where
   number : ℕ
@@ -79,9 +41,9 @@ abbrev _is_ : List ℕ → ℕ → Line
 b is k = record { number = k; bytes = b }
 
 all-said : List Line → Bool
-unfolding said
+unfolding rejected-with
 all-said [] = true
-all-said (l ∷ ls) = eqb (said (l .bytes)) (l .number) && all-said ls
+all-said (l ∷ ls) = eqb (rejected-with (l .bytes)) (l .number) && all-said ls
 
 abbrev table : List Line
 table =

@@ -6,4 +6,5 @@ pub mod Layout
 pub mod Machine
 pub mod Theorems
 pub mod Samples
+pub mod Computed
 pub mod Examples

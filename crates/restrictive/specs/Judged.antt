@@ -3,69 +3,19 @@ use Prim.Native.Nat.{ℕ}
 use mathlib.Core.Bool.{Bool, true, false, _&&_}
 use mathlib.Core.List.{List}
 use lib.Dec.{eqb}
-use Rattle.bounded.specs.Search.{any, all, first, or-else}
+use Rattle.bounded.specs.Search.{all, first, or-else}
 use Rattle.machine.specs.Roles.{at-level, role-of}
-use Rattle.words.specs.Sets.{bit, exceeds}
-use Rattle.words.specs.LittleEndian.{number, digits}
+use Rattle.words.specs.Sets.{bit}
 use Rattle.level.specs.Level.{rank, at-or-below, low}
-use Rattle.part.specs.Record.{
-  body-length,
-  kind,
-  observer,
-  states,
-  start,
-  events,
-  class,
-  classes-below,
-  entry-at,
-  identifier,
-  event-kind,
-  level,
-  row-at,
-  row,
-  body-size,
-}
-use Rattle.part.specs.Rejections.{
-  too-short,
-  wrong-length,
-  wrong-kind,
-  out-of-range,
-  wrong-size,
-  skips-at,
-  misnumbered,
-  falls-at,
-  falling,
-  unknown-at,
-  unknown-kind,
-  misordered,
-  strays-at,
-  row-strays,
-  stray-bit,
-  first-of,
-  rejection,
-}
+use Rattle.part.specs.Record.{observer}
+use Rattle.part.specs.Computed.{rejected-with}
 use Rattle.part.specs.Machine.{kind-of}
 use Rattle.restrictive.specs.Tests.{role-at, leads, same-class, silent-step, via, reach, around, asks, answers, broken}
-use Rattle.restrictive.specs.Verdict.{
-  Violation,
-  Verdict,
-  pass,
-  refused,
-  breaks,
-  rule-at,
-  violation-at,
-  state-violation,
-  event-violation,
-  rule-violation,
-  first-violation,
-  by-rules,
-  after-rejection,
-  verdict,
-}
+use Rattle.restrictive.specs.Verdict.{Violation, Verdict, pass, refused, breaks, rule-at, violation-at, state-violation, event-violation, rule-violation, first-violation, by-rules, after-rejection, verdict}
 
 -- The verdict, computed.
 unfoldable pub judged : List ℕ → Verdict
-unfolding verdict after-rejection by-rules first-violation rule-violation event-violation state-violation violation-at rule-at broken answers asks around reach via silent-step same-class leads role-at role-of at-level kind-of rejection first-of too-short wrong-length wrong-kind out-of-range wrong-size misnumbered skips-at misordered falling falls-at unknown-kind unknown-at stray-bit row-strays strays-at body-length kind observer states start events class classes-below entry-at identifier event-kind level row-at row body-size any all first or-else bit exceeds number digits low at-or-below rank
+unfolding rejected-with verdict after-rejection by-rules first-violation rule-violation event-violation state-violation violation-at rule-at broken answers asks around reach via silent-step same-class leads role-at role-of at-level kind-of observer all first or-else bit low at-or-below rank
 judged b = verdict b
 
 abbrev pub same-violation : Violation → Violation → Bool
