@@ -1,0 +1,41 @@
+use native.Mathlib.Omega.{arith}
+use Rattle.report.proofs.Laying.{laid-start, laid-refusal}
+use borrow.Author.Needs.{needs}
+use Rattle.report.proofs.refusal.Statement.{statement}
+use Rattle.report.proofs.refusal.Tie as tie
+
+slice-aggregate-labelled : tie.Need-slice-aggregate-labelled
+slice-aggregate-labelled c = search needs
+
+number-requires : tie.Need-number-requires
+number-requires c κs = search needs
+
+cast-labelled : tie.Need-cast-labelled
+cast-labelled c = search needs
+
+labelled-requires : tie.Need-labelled-requires
+labelled-requires c κs = search needs
+
+slice-aggregate-word : tie.Need-slice-aggregate-word
+slice-aggregate-word c = search needs
+
+word-requires : tie.Need-word-requires
+word-requires c κs = search needs
+
+returns : tie.Need-returns
+returns c =
+    let end = c .before .before .before in
+    let number = end .before .before .number .ensures in
+    laid-start (laid-refusal _ (rw number at (end .labelled .ensures .0)) (c .word .ensures)) (omega arith)
+
+pub refusal-spec : {M : Type 1} → statement M
+refusal-spec =
+    tie.close
+    (tie.spec
+    slice-aggregate-labelled
+    number-requires
+    cast-labelled
+    labelled-requires
+    slice-aggregate-word
+    word-requires
+    returns)

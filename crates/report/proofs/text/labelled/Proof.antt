@@ -1,0 +1,20 @@
+use native.Mathlib.Omega.{arith}
+use Rattle.report.proofs.Laying.{then}
+use borrow.Author.Needs.{needs}
+use Rattle.report.proofs.text.labelled.Statement.{statement}
+use Rattle.report.proofs.text.labelled.Tie as tie
+
+word-requires : tie.Need-word-requires
+word-requires c κs = search needs
+
+number-requires : tie.Need-number-requires
+number-requires c κs = search needs
+
+same-length : tie.Need-same-length
+same-length c = search needs
+
+returns : tie.Need-returns
+returns c = (then (c .before .before .before .before .before .before .word .ensures) (c .before .before .number .ensures .0), omega arith)
+
+pub labelled-spec : {M : Type 1} → statement M
+labelled-spec = tie.close (tie.spec word-requires number-requires same-length returns)

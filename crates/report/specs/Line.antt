@@ -1,0 +1,61 @@
+-- The line that is printed for a verdict, as bytes of ASCII: "pass", "refused N", or "rule R event E from S to T other U", and a line end.
+-- The numbers are decimal.
+use Prim.Native.Nat.{ℕ, zero, suc, _+_, _/_, _%_}
+use mathlib.Core.List.{List, [], _∷_, _++_}
+use Rattle.restrictive.specs.Verdict.{Verdict, pass, refused, breaks}
+
+-- The last decimal digit of n.
+abbrev pub last-digit : ℕ → ℕ
+last-digit n = 48 + n % 10
+
+-- The digits of n: the last, and before it those of n / 10, unless that is 0. There are at most `most` of them.
+unfoldable pub digits : ℕ → ℕ → List ℕ
+digits zero n = []
+digits (suc most) n = elim (n / 10) [ zero ↦ [] | suc q ↦ digits most (suc q) ] ++ (last-digit n ∷ [])
+
+-- n in decimal, with no zeros in front; 0 is "0". n + 1 digits are always enough.
+unfoldable pub decimal : ℕ → List ℕ
+decimal n = digits (suc n) n
+
+-- "pass"
+abbrev pub pass-text : List ℕ
+pass-text = 112 ∷ 97 ∷ 115 ∷ 115 ∷ []
+
+-- "refused "
+abbrev pub refused-text : List ℕ
+refused-text = 114 ∷ 101 ∷ 102 ∷ 117 ∷ 115 ∷ 101 ∷ 100 ∷ 32 ∷ []
+
+-- "rule "
+abbrev pub rule-text : List ℕ
+rule-text = 114 ∷ 117 ∷ 108 ∷ 101 ∷ 32 ∷ []
+
+-- " event "
+abbrev pub event-text : List ℕ
+event-text = 32 ∷ 101 ∷ 118 ∷ 101 ∷ 110 ∷ 116 ∷ 32 ∷ []
+
+-- " from "
+abbrev pub from-text : List ℕ
+from-text = 32 ∷ 102 ∷ 114 ∷ 111 ∷ 109 ∷ 32 ∷ []
+
+-- " to "
+abbrev pub to-text : List ℕ
+to-text = 32 ∷ 116 ∷ 111 ∷ 32 ∷ []
+
+-- " other "
+abbrev pub other-text : List ℕ
+other-text = 32 ∷ 111 ∷ 116 ∷ 104 ∷ 101 ∷ 114 ∷ 32 ∷ []
+
+-- The end of the line.
+abbrev pub line-end : List ℕ
+line-end = 10 ∷ []
+
+unfoldable pub line : Verdict → List ℕ
+line pass = pass-text ++ line-end
+line (refused k) = refused-text ++ decimal k ++ line-end
+line (breaks v) =
+    (rule-text ++ decimal (v .rule))
+    ++ (event-text ++ decimal (v .event))
+    ++ (from-text ++ decimal (v .s))
+    ++ (to-text ++ decimal (v .t))
+    ++ (other-text ++ decimal (v .u))
+    ++ line-end

@@ -1,0 +1,48 @@
+// The line that is printed for a verdict (specs/Line.antt).
+mod text;
+
+ghost use mathlib.Core.Path.{_≡_};
+ghost use mathlib.Core.List.{_++_};
+ghost use lib.ListN.{length, drop};
+ghost use Rattle.part.specs.Answers.{number-of};
+ghost use Rattle.restrictive.specs.Answers.{named, means};
+ghost use Rattle.restrictive.specs.Verdict.{refused, breaks};
+ghost use Rattle.report.specs.Line.{line};
+use part::Rejection;
+use restrictive::Verdict;
+use restrictive::Violation;
+
+// How long a line can be: five numbers have 20 digits each at most, and the words around them 30 bytes.
+pub const LINE: usize = 160;
+
+fn refusal(r: Rejection, out: &mut [u8; LINE]) -> usize
+    ensures { λ n. ⌜ n ≡ length (line (refused (number-of r))) ⌝ }
+    ensures { λ n. ⌜ now (out .exit) ≡ line (refused (number-of r)) ++ drop n (now (out .entry)) ⌝ }
+{
+    let at = text::labelled(b"refused ", r.number() as usize, out, 0);
+    text::word(b"\n", out, at)
+}
+
+fn violation(v: Violation, out: &mut [u8; LINE]) -> usize
+    ensures { λ n. ⌜ n ≡ length (line (breaks (named v))) ⌝ }
+    ensures { λ n. ⌜ now (out .exit) ≡ line (breaks (named v)) ++ drop n (now (out .entry)) ⌝ }
+{
+    let event = text::labelled(b"rule ", v.rule, out, 0);
+    let from = text::labelled(b" event ", v.event, out, event);
+    let to = text::labelled(b" from ", v.s, out, from);
+    let other = text::labelled(b" to ", v.t, out, to);
+    let end = text::labelled(b" other ", v.u, out, other);
+    text::word(b"\n", out, end)
+}
+
+// Writes the verdict's line to the start of out, and answers its length. The rest of out stays.
+pub fn line(v: Verdict, out: &mut [u8; LINE]) -> usize
+    ensures { λ r. ⌜ r ≡ length (line (means v)) ⌝ }
+    ensures { λ r. ⌜ now (out .exit) ≡ line (means v) ++ drop r (now (out .entry)) ⌝ }
+{
+    match v {
+        Verdict::Pass => text::word(b"pass\n", out, 0),
+        Verdict::Refused(r) => refusal(r, out),
+        Verdict::Break(b) => violation(b, out),
+    }
+}

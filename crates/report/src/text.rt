@@ -1,0 +1,67 @@
+// Words and decimal numbers laid over bytes, from a place on. Each function answers the place behind what it lays.
+ghost use mathlib.Core.Path.{_≡_};
+ghost use Prim.Native.Nat.{_+_, _≤_};
+ghost use mathlib.Core.List.{_++_};
+ghost use lib.ListN.{length};
+ghost use Rattle.report.specs.Line.{last-digit, decimal};
+ghost use Rattle.report.specs.Laid.{Laid};
+
+fn last_digit(n: usize) -> u8
+    ensures { λ r. ⌜ r ≡ last-digit n ⌝ }
+{
+    b'0' + (n % 10) as u8
+}
+
+// How many digits n has.
+fn digits(n: usize) -> usize
+    ensures { λ r. ⌜ r ≡ length (decimal n) ⌝ }
+    ensures { λ r. ⌜ r ≤ 20 ⌝ }
+{
+    let mut count = 1;
+    let mut rest = n;
+    while rest >= 10 {
+        rest /= 10;
+        count += 1;
+    }
+    count
+}
+
+// n in decimal, from its last digit to its first.
+fn number(n: usize, out: &mut [u8], at: usize) -> usize
+    requires { ⌜ at + 20 ≤ length (now out) ⌝ }
+    ensures { λ r. ⌜ Laid (now (out .entry)) at (decimal n) (now (out .exit)) r ⌝ }
+    ensures { λ r. ⌜ r ≤ at + 20 ⌝ }
+{
+    let end = at + digits(n);
+    let mut i = end - 1;
+    let mut rest = n;
+    while rest >= 10 {
+        out[i] = last_digit(rest);
+        rest /= 10;
+        i -= 1;
+    }
+    out[i] = last_digit(rest);
+    end
+}
+
+pub fn word(bytes: &[u8], out: &mut [u8], at: usize) -> usize
+    requires { ⌜ at + length (now bytes) ≤ length (now out) ⌝ }
+    ensures { λ r. ⌜ Laid (now (out .entry)) at (now (bytes .entry)) (now (out .exit)) r ⌝ }
+{
+    let mut i = 0;
+    while i < bytes.len() {
+        out[at + i] = bytes[i];
+        i += 1;
+    }
+    at + bytes.len()
+}
+
+// The word, and then n in decimal.
+pub fn labelled(bytes: &[u8], n: usize, out: &mut [u8], at: usize) -> usize
+    requires { ⌜ at + length (now bytes) + 20 ≤ length (now out) ⌝ }
+    ensures { λ r. ⌜ Laid (now (out .entry)) at (now (bytes .entry) ++ decimal n) (now (out .exit)) r ⌝ }
+    ensures { λ r. ⌜ r ≤ at + length (now (bytes .entry)) + 20 ⌝ }
+{
+    let next = word(bytes, out, at);
+    number(n, out, next)
+}
