@@ -16,7 +16,7 @@ use Rattle.machine.specs.Rules.{Rule, rule-2}
 use Rattle.part.specs.Record.{states, class, identifier, row}
 use Rattle.restrictive.specs.Tests.{role-at, concerns, leads, same-class, asks, answers, broken}
 use Rattle.restrictive.specs.Verdict.{Violation, rule-at, violation-at, state-violation, event-violation}
-use Rattle.restrictive.specs.Sets.{led-to, reached, offer, permits, Asked, EventSets, ClassesBelow}
+use Rattle.restrictive.specs.Sets.{led-to, reached, offer, permits, Asked, Weighed}
 use Rattle.words.specs.Sets.{bit, Rows, intersection}
 use Rattle.words.proofs.Sets.{bit-intersection, bit-zero, all-below}
 
@@ -126,21 +126,20 @@ none-by b k i l e = first-nothing (state-violation b k i) (states b) (λ s h. no
 
 -- ---- the sets say where a rule is broken
 
-module _ (b : List ℕ) (k i : ℕ) (rows led offers allowed : List ℕ) (sets : EventSets b (rule-at k) i rows led offers allowed)
-    (low : ClassesBelow b) (one : 1 ≤ k) (five : k < 5) (speaks : concerns (rule-at k) (role-at b i) ≡ true) where
+module _ (b : List ℕ) (k i : ℕ) (rows led offers allowed : List ℕ) (w : Weighed b k i rows led offers allowed) where
   -- the event does not lead from s to t
   pub no-step : (s t : ℕ) → s < states b → bit (getD rows s 0) t ≡ false → first (states b) (violation-at b k i s t) ≡ none
-  no-step s t h e = none-there b k i s t (λ u l. not-led b k i s t u one five speaks (sym (sets .leading s h t) ∙ e))
+  no-step s t h e = none-there b k i s t (λ u l. not-led b k i s t u (w .later) (w .last) (w .speaks) (sym (w .sets .leading s h t) ∙ e))
 
   asked : (s t : ℕ) → s < states b → bit (getD rows s 0) t ≡ true → Asked b k i s t
-  asked s t h e = (speaks, sym (sets .leading s h t) ∙ e)
+  asked s t h e = (w .speaks, sym (w .sets .leading s h t) ∙ e)
 
   -- it leads there, and the class of t is permitted
   pub allowed-step : (s t : ℕ) → s < states b → t < states b → bit (getD rows s 0) t ≡ true → bit (getD allowed s 0) (class b t) ≡ true
       → first (states b) (violation-at b k i s t) ≡ none
   allowed-step s t h l e p =
       none-there b k i s t (λ u m.
-      permitted b k i s t u one five h m (asked s t h e) (sym (sets .permitting s h (class b t) (low t l)) ∙ p))
+      permitted b k i s t u (w .later) (w .last) h m (asked s t h e) (sym (w .sets .permitting s h (class b t) (w .below t l)) ∙ p))
 
   -- all classes that it leads to from s are permitted
   pub all-allowed : (s : ℕ) → s < states b → intersection (getD led s 0) (getD allowed s 0) ≡ getD led s 0 → state-violation b k i s ≡ none
@@ -154,9 +153,9 @@ module _ (b : List ℕ) (k i : ℕ) (rows led offers allowed : List ℕ) (sets :
     where
       in-led : (t : ℕ) → t < states b → bit (getD rows s 0) t ≡ true → bit (getD led s 0) (class b t) ≡ true
       in-led t l p =
-          sets .leading-to s h (class b t)
+          w .sets .leading-to s h (class b t)
           ∙ any-at (λ v. leads b i s v && eqb (class b v) (class b t)) (states b) t l
-          (and-now (leads b i s t) (eqb (class b t) (class b t)) (sym (sets .leading s h t) ∙ p) ∙ eq-eqb (class b t) (class b t) refl)
+          (and-now (leads b i s t) (eqb (class b t) (class b t)) (sym (w .sets .leading s h t) ∙ p) ∙ eq-eqb (class b t) (class b t) refl)
 
       in-allowed : (t : ℕ) → t < states b → bit (getD rows s 0) t ≡ true → bit (getD allowed s 0) (class b t) ≡ true
       in-allowed t l p =
@@ -166,7 +165,7 @@ module _ (b : List ℕ) (k i : ℕ) (rows led offers allowed : List ℕ) (sets :
   -- rule 2: it leads there, and t has another class
   pub leaving : k ≡ 1 → 1 ≤ states b → (s t : ℕ) → s < states b → t < states b → bit (getD rows s 0) t ≡ true → bit (getD allowed s 0) (class b t) ≡ false
       → first (states b) (violation-at b k i s t) ≡ some (the-violation b k i s t 0)
-  leaving e n s t h l p q = any-other b k i s t n (leaves-class b k i s t 0 e h (asked s t h p) (sym (sets .permitting s h (class b t) (low t l)) ∙ q))
+  leaving e n s t h l p q = any-other b k i s t n (leaves-class b k i s t 0 e h (asked s t h p) (sym (w .sets .permitting s h (class b t) (w .below t l)) ∙ q))
 
 -- The test of the code for rules 3 to 5 is the rule's.
 pub broken-by-set : (b : List ℕ) (k i s t u : ℕ) (offers : List ℕ) → 2 ≤ k → k < 5 → Asked b k i s t → Rows (states b) offers (offer b (rule-at k) i)

@@ -7,7 +7,7 @@ use lib.ListN.{getD}
 use lib.Dec.{eqb}
 use Rattle.bounded.specs.Search.{any, all}
 use Rattle.words.specs.Sets.{bit, Rows, gathered}
-use Rattle.part.specs.Record.{states, events, class, row}
+use Rattle.part.specs.Record.{states, events, class, row, Framed}
 use Rattle.machine.specs.Rules.{Rule, rule-1, rule-2, rule-3, rule-4, rule-5}
 use Rattle.restrictive.specs.Tests.{role-at, concerns, leads, reach, around, same-class}
 use Rattle.restrictive.specs.Verdict.{rule-at}
@@ -65,6 +65,16 @@ pub record EventSets (b : List ℕ) (r : Rule) (i : ℕ) (rows led offers allowe
   pub leading-to : Rows (states b) led (led-to b i)
   pub offering : Rows (states b) offers (offer b r i)
   pub permitting : (s : ℕ) → s < states b → (c : ℕ) → c < 64 → bit (getD allowed s 0) c ≡ permits b r i s c
+
+-- The event at place i under rule k + 1, one of the rules 2 to 5 that speaks of it, with its sets.
+pub record Weighed (b : List ℕ) (k i : ℕ) (rows led offers allowed : List ℕ) : Type 0 where
+  pub framed : Framed b
+  pub below : ClassesBelow b
+  pub placed : i < events b
+  pub later : 1 ≤ k
+  pub last : k < 5
+  pub speaks : concerns (rule-at k) (role-at b i) ≡ true
+  pub sets : EventSets b (rule-at k) i rows led offers allowed
 
 -- Rule k + 1 speaks of the event at place i, which leads from s to t.
 abbrev pub Asked : List ℕ → ℕ → ℕ → ℕ → ℕ → Type 0

@@ -6,7 +6,7 @@ ghost use lib.ListN.{getD};
 ghost use Rattle.bounded.specs.Search.{first};
 ghost use Rattle.part.specs.Record.{states, events, class, identifier, Framed};
 ghost use Rattle.restrictive.specs.Tests.{role-at, concerns, same-class};
-ghost use Rattle.restrictive.specs.Sets.{ClassesBelow, RowsWithin, RecordSets, EventSets, offer, Asked, Offered, Permitted};
+ghost use Rattle.restrictive.specs.Sets.{ClassesBelow, RowsWithin, RecordSets, Weighed, offer, Asked, Offered, Permitted};
 ghost use Rattle.restrictive.specs.Verdict.{rule-at, violation-at, state-violation, event-violation, rule-violation, first-violation};
 ghost use Rattle.restrictive.specs.Answers.{named, shows};
 ghost use Rattle.words.specs.Sets.{bit, Rows};
@@ -87,11 +87,8 @@ fn at_target(
     offers: &[u64; 64],
     allowed: &[u64; 64],
 ) -> Found
-    requires { ⌜ Framed (now b) ⌝ }
-    requires { ⌜ ClassesBelow (now b) ⌝ }
-    requires { ⌜ (i < events (now b)) × (s < states (now b)) × (t < states (now b)) ⌝ }
-    requires { ⌜ (1 ≤ k) × (k < 5) × (concerns (rule-at k) (role-at (now b) i) ≡ true) ⌝ }
-    requires { ⌜ EventSets (now b) (rule-at k) i (now rows) (now led) (now offers) (now allowed) ⌝ }
+    requires { ⌜ Weighed (now b) k i (now rows) (now led) (now offers) (now allowed) ⌝ }
+    requires { ⌜ (s < states (now b)) × (t < states (now b)) ⌝ }
     ensures { λ r. ⌜ shows r ≡ first (states (now (b .entry))) (violation-at (now (b .entry)) k i s t) ⌝ }
 {
     if !set::contains(rows[s], t) {
@@ -117,11 +114,8 @@ fn at_state(
     offers: &[u64; 64],
     allowed: &[u64; 64],
 ) -> Found
-    requires { ⌜ Framed (now b) ⌝ }
-    requires { ⌜ ClassesBelow (now b) ⌝ }
-    requires { ⌜ (i < events (now b)) × (s < states (now b)) ⌝ }
-    requires { ⌜ (1 ≤ k) × (k < 5) × (concerns (rule-at k) (role-at (now b) i) ≡ true) ⌝ }
-    requires { ⌜ EventSets (now b) (rule-at k) i (now rows) (now led) (now offers) (now allowed) ⌝ }
+    requires { ⌜ Weighed (now b) k i (now rows) (now led) (now offers) (now allowed) ⌝ }
+    requires { ⌜ s < states (now b) ⌝ }
     ensures { λ r. ⌜ shows r ≡ state-violation (now (b .entry)) k i s ⌝ }
 {
     let to = led[s];
@@ -151,11 +145,7 @@ fn by_sets(
     offers: &[u64; 64],
     allowed: &[u64; 64],
 ) -> Found
-    requires { ⌜ Framed (now b) ⌝ }
-    requires { ⌜ ClassesBelow (now b) ⌝ }
-    requires { ⌜ i < events (now b) ⌝ }
-    requires { ⌜ (1 ≤ k) × (k < 5) × (concerns (rule-at k) (role-at (now b) i) ≡ true) ⌝ }
-    requires { ⌜ EventSets (now b) (rule-at k) i (now rows) (now led) (now offers) (now allowed) ⌝ }
+    requires { ⌜ Weighed (now b) k i (now rows) (now led) (now offers) (now allowed) ⌝ }
     ensures { λ r. ⌜ shows r ≡ event-violation (now (b .entry)) k i ⌝ }
 {
     let n = Part::states(b);
