@@ -1,4 +1,4 @@
--- What is proved of records, as statements. Their proofs stand in proofs/Theorems.antt under the same names.
+-- What is proved of records, as statements. Their proofs stand in proofs/: Ranges, Places, Extensional.
 use Prim.Native.Nat.{ℕ, suc, _+_, _*_, _≤_, _<_}
 use mathlib.Core.Path.{_≡_}
 use mathlib.Core.Logic.{_↔_}

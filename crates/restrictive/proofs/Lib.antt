@@ -7,6 +7,7 @@ pub mod Scans
 pub mod Offers
 pub mod Answering
 pub mod SilentReach
+pub mod SilentWithin
 pub mod Reflect
 pub mod First
 pub mod Theorems
