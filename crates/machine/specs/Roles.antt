@@ -1,6 +1,6 @@
 -- What an event of a machine is to an observer: its kind, and whether it is low or high (document 01, "Levels").
 use Prim.Native.Nat.{ℕ}
-use mathlib.Core.Bool.{Bool, true, false, not}
+use mathlib.Core.Bool.{Bool, true, false}
 use Rattle.machine.specs.Machine.{Kind, input, output, internal, Event, absent, event, Machine, Observation}
 
 -- An event as the observer sees it: not there, or of a kind, and low or not.
@@ -8,6 +8,7 @@ pub data Role : Type 0 where
   missing : Role
   low high : Kind → Role
 
+-- A kind of event at a level that is low or not.
 unfoldable pub at-level : Kind → Bool → Role
 at-level k true = low k
 at-level k false = high k
@@ -21,6 +22,7 @@ role-of is-low (event k l) = at-level k (is-low l)
 abbrev pub role : {S : Type 0} → Machine S → Observation S → ℕ → Role
 role M O e = role-of (O .low) (M .events e)
 
+-- An input, low or high; a low input; a high input.
 abbrev pub is-input : Role → Bool
 is-input missing = false
 is-input (low input) = true
@@ -59,9 +61,3 @@ is-low-action (low input) = false
 is-low-action (low output) = true
 is-low-action (low internal) = true
 is-low-action (high k) = false
-
--- A low event of any kind.
-abbrev pub is-low : Role → Bool
-is-low missing = false
-is-low (low k) = true
-is-low (high k) = false

@@ -1,19 +1,18 @@
 -- The event machine of a part's record, and what its observer is given.
 use Prim.Native.Nat.{ℕ, zero, suc, _<_}
 use mathlib.Core.Path.{_≡_}
-use mathlib.Core.Bool.{true, false, _||_}
+use mathlib.Core.Bool.{true, false}
 use mathlib.Core.List.{List}
 use mathlib.Core.Option.{Option, none, some}
 use native.Mathlib.Omega.{arith}
 use borrow.Author.Tests.{leb-false}
-use lib.Dec.{T, eqb, leb, ltb}
+use lib.Dec.{T, eqb}
 use Rattle.bounded.proofs.Search.{or-left, or-right}
 use Rattle.bounded.specs.Search.{first}
 use Rattle.machine.specs.Machine.{Kind, input, output, internal, Event, absent, event, Machine, Observation}
 use Rattle.words.specs.Sets.{bit}
 use Rattle.level.specs.Level.{low}
-use Rattle.part.specs.Limits.{max-states, max-events}
-use Rattle.part.specs.Record.{body-length, observer, states, start, events, class, identifier, event-kind, level, row}
+use Rattle.part.specs.Record.{observer, states, start, events, class, identifier, event-kind, level, row}
 use Rattle.part.specs.Rejections.{Accepted, out-of-range}
 
 -- A state of the part: a number below n.
@@ -57,10 +56,7 @@ leads-present b e s t l q = go (place b e) (l .placed) q
 -- The start state of an accepted record is one of its states (4 does not hold).
 pub start-below : (b : List ℕ) → Accepted b → start b < states b
 unfolding out-of-range
-start-below b a =
-    let before = ltb (body-length b) 4 || ltb (states b) 1 || ltb max-states (states b) in
-    leb-false (states b) (start b)
-    (or-right before (leb (states b) (start b)) (or-left (before || leb (states b) (start b)) (ltb max-events (events b)) (a .1 .1 .1 .0)))
+start-below b a = search (a, or-left, or-right, leb-false)
 
 -- The machine of an accepted record.
 abbrev pub machine : (b : List ℕ) → Accepted b → Machine (State b)

@@ -62,14 +62,14 @@ module _ (n : ℕ) (f : ℕ → Bool) (g h : ℕ → ℕ → Bool) (k : ℕ → 
 pub offered-last : (n k : ℕ) (rows led closure classes own words after : List ℕ) → (k ≡ 1 → ⊥) → (k ≡ 2 → ⊥) → (k ≡ 3 → ⊥)
     → Rows n after (λ s. gathered n (getD rows s 0) classes) → Rows n words (λ s. gathered n (getD closure s 0) after)
     → Offered n k rows led closure classes own words
-offered-last n zero rows led closure classes own words after x y z h g = tt
+offered-last n zero rows led closure classes own words after x y z h g = record { after = after; first-half = h; second-half = g }
 offered-last n (suc zero) rows led closure classes own words after x y z h g = absurd (x refl)
 offered-last n (suc (suc zero)) rows led closure classes own words after x y z h g = absurd (y refl)
 offered-last n (suc (suc (suc zero))) rows led closure classes own words after x y z h g = absurd (z refl)
-offered-last n (suc (suc (suc (suc k)))) rows led closure classes own words after x y z h g = (after, h, g)
+offered-last n (suc (suc (suc (suc k)))) rows led closure classes own words after x y z h g = record { after = after; first-half = h; second-half = g }
 
 pub permitted-later : (b : List ℕ) (k : ℕ) (offers words : List ℕ) → (k ≡ 1 → ⊥) → Allowed b offers words → Permitted b k offers words
-permitted-later b zero offers words x h = tt
+permitted-later b zero offers words x h = h
 permitted-later b (suc zero) offers words x h = absurd (x refl)
 permitted-later b (suc (suc k)) offers words x h = h
 
@@ -94,9 +94,9 @@ module _ (b : List ℕ) (i : ℕ) (rows led closure classes own : List ℕ) (set
   offering (suc (suc zero)) offers one five to w = subst (λ (xs : List ℕ). Rows (states b) xs (led-to b i)) (sym w) to
   offering (suc (suc (suc zero))) offers one five to w = subst (λ (xs : List ℕ). Rows (states b) xs (reached b)) (sym w) (sets .reaches)
   offering (suc (suc (suc (suc zero)))) offers one five to w = λ u h c.
-      w .2 u h c
-      ∙ gathered-as (states b) closure (w .0) (reach b) (λ p x. any (states b) (λ q. leads b i p q && reached b q x)) (sets .closed)
-      (λ p l x. w .1 p l x ∙ gathered-as (states b) rows classes (leads b i) (reached b) leading (sets .reaches) p x l) u c h
+      w .second-half u h c
+      ∙ gathered-as (states b) closure (w .after) (reach b) (λ p x. any (states b) (λ q. leads b i p q && reached b q x)) (sets .closed)
+      (λ p l x. w .first-half p l x ∙ gathered-as (states b) rows classes (leads b i) (reached b) leading (sets .reaches) p x l) u c h
       ∙ around-classes b i u c
   offering (suc (suc (suc (suc (suc k))))) offers one five to w = absurd (omega arith)
 

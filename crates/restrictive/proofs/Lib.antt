@@ -1,6 +1,5 @@
 pub mod Truth
 pub mod Roles
-pub mod Arrays
 pub mod SilentRows
 pub mod ClassRows
 pub mod Scans

@@ -14,9 +14,9 @@ use Rattle.bounded.specs.Search.{any, all, first}
 use Rattle.bounded.proofs.Search.{any-at, all-at, all-intro, any-found, any-none, first-nothing, first-hit, same-truth, is-false, is-true, true-not-false, imp-elim, imp-intro, not-refuted, true-or-false, and-now, and-right}
 use Rattle.machine.specs.Rules.{Rule, rule-2}
 use Rattle.part.specs.Record.{states, class, identifier, row}
-use Rattle.restrictive.specs.Tests.{role-at, concerns, leads, same-class, asks, answers, broken}
+use Rattle.restrictive.specs.Tests.{role-at, leads, same-class, asks, answers, broken}
 use Rattle.restrictive.specs.Verdict.{Violation, rule-at, violation-at, state-violation, event-violation}
-use Rattle.restrictive.specs.Sets.{led-to, reached, offer, permits, Asked, Weighed}
+use Rattle.restrictive.specs.Sets.{concerns, led-to, reached, offer, permits, Asked, Weighed}
 use Rattle.words.specs.Sets.{bit, Rows, intersection}
 use Rattle.words.proofs.Sets.{bit-intersection, bit-zero, all-below}
 

@@ -12,7 +12,8 @@ use Rattle.machine.specs.Roles.{at-level, role-of, is-input}
 use Rattle.level.specs.Level.{low}
 use Rattle.part.specs.Record.{observer, event-kind, level}
 use Rattle.part.specs.Machine.{kind-of}
-use Rattle.restrictive.specs.Tests.{role-at, concerns, own-rule}
+use Rattle.restrictive.specs.Sets.{concerns, own-rule}
+use Rattle.restrictive.specs.Tests.{role-at}
 use Rattle.restrictive.specs.Verdict.{rule-at}
 
 abbrev of-input : Kind → Bool

@@ -1,4 +1,5 @@
--- What the arrays of Check hold: sets of classes.
+-- The words in which the functions inside Check promise things to each other: which rule speaks of an event, and what the arrays of sets
+-- hold. No promise of Check itself rests on this page.
 use Prim.Native.Nat.{ℕ, zero, suc, _≤_, _<_}
 use mathlib.Core.Path.{_≡_}
 use mathlib.Core.Bool.{Bool, true, false, not, _||_, _&&_}
@@ -8,9 +9,25 @@ use lib.Dec.{eqb}
 use Rattle.bounded.specs.Search.{any, all}
 use Rattle.words.specs.Sets.{bit, Rows, gathered}
 use Rattle.part.specs.Record.{states, events, class, row, Framed}
+use Rattle.machine.specs.Roles.{Role, is-input, is-low-input, is-high-input, is-silent, is-low-action}
 use Rattle.machine.specs.Rules.{Rule, rule-1, rule-2, rule-3, rule-4, rule-5}
-use Rattle.restrictive.specs.Tests.{role-at, concerns, leads, reach, around, same-class}
+use Rattle.restrictive.specs.Tests.{role-at, leads, reach, around, same-class}
 use Rattle.restrictive.specs.Verdict.{rule-at}
+
+-- A rule speaks of events of these roles.
+abbrev pub concerns : Rule → Role → Bool
+concerns rule-1 r = is-input r
+concerns rule-2 r = is-high-input r
+concerns rule-3 r = is-low-input r
+concerns rule-4 r = is-silent r
+concerns rule-5 r = is-low-action r
+
+-- The one of the rules 2 to 5 that speaks of an input or another event, low or high, counted from 0.
+unfoldable pub own-rule : Bool → Bool → ℕ
+own-rule true true = 2
+own-rule true false = 1
+own-rule false true = 4
+own-rule false false = 3
 
 -- Every class is below 64.
 abbrev pub ClassesBelow : List ℕ → Type 0
@@ -80,18 +97,23 @@ pub record Weighed (b : List ℕ) (k i : ℕ) (rows led offers allowed : List �
 abbrev pub Asked : List ℕ → ℕ → ℕ → ℕ → ℕ → Type 0
 Asked b k i s t = (concerns (rule-at k) (role-at b i) ≡ true) × (leads b i s t ≡ true)
 
--- The words that hold what the states offer: under rule 2 their own class, under 3 what the event leads to, under 4 the classes of the
--- closure, under 5 what the closure, the event and the closure gather.
+-- The words hold what the closure, the event and the closure gather.
+pub record Through (n : ℕ) (rows closure classes words : List ℕ) : Type 0 where
+  pub after : List ℕ
+  pub first-half : Rows n after (λ s. gathered n (getD rows s 0) classes)
+  pub second-half : Rows n words (λ s. gathered n (getD closure s 0) after)
+
+-- The words hold what the states offer: under rule 2 their own class, under 3 what the event leads to, under 4 the classes of the closure,
+-- else what lies through the event.
 abbrev pub Offered : ℕ → ℕ → List ℕ → List ℕ → List ℕ → List ℕ → List ℕ → List ℕ → Type 0
-Offered n zero rows led closure classes own words = Unit {0}
+Offered n zero rows led closure classes own words = Through n rows closure classes words
 Offered n (suc zero) rows led closure classes own words = words ≡ own
 Offered n (suc (suc zero)) rows led closure classes own words = words ≡ led
 Offered n (suc (suc (suc zero))) rows led closure classes own words = words ≡ classes
-Offered n (suc (suc (suc (suc k)))) rows led closure classes own words =
-    (after : List ℕ) × Rows n after (λ s. gathered n (getD rows s 0) classes) × Rows n words (λ s. gathered n (getD closure s 0) after)
+Offered n (suc (suc (suc (suc k)))) rows led closure classes own words = Through n rows closure classes words
 
--- The words that hold what is permitted: under rule 2 the offer itself, under the others what all of a class offer.
+-- The words hold what is permitted: under rule 2 the offer itself, else what all of a class offer.
 abbrev pub Permitted : List ℕ → ℕ → List ℕ → List ℕ → Type 0
-Permitted b zero offers words = Unit {0}
+Permitted b zero offers words = Allowed b offers words
 Permitted b (suc zero) offers words = words ≡ offers
 Permitted b (suc (suc k)) offers words = Allowed b offers words

@@ -3,7 +3,7 @@ use Prim.Native.Nat.{ℕ, zero, suc, _+_, _-_, _*_, _/_, _%_, _^_, _≤_, _<_, m
 use mathlib.Core.Path.{_≡_, refl, sym, ap, _∙_, subst}
 use mathlib.Core.Bool.{Bool, true, false, not, _||_, _&&_}
 use mathlib.Core.Logic.{_↔_, ⊎-elim}
-use native.Mathlib.Nat.{div-one, div-eq-of-lt, mod-lt, lt-of-lt-of-le, pow-succ', zero-div, mod-eq-of-lt, one-mul, le-div-iff-mul-le, lt-of-not-le, ne-of-lt}
+use native.Mathlib.Nat.{div-one, div-eq-of-lt, mod-lt, lt-of-lt-of-le, pow-succ', zero-div, mod-eq-of-lt, one-mul, le-div-iff-mul-le, lt-of-not-le}
 use native.Mathlib.Numerals.{one-add, add-one}
 use native.Mathlib.Decide.{decLe, decLt, ℕ-discrete as decEq}
 use native.Mathlib.Omega.{arith}
@@ -15,11 +15,10 @@ use lib.Bits.{bitAnd, bitOr, and-shr, or-shr, and-step, or-step, and-lt, or-lt, 
 use lib.Count.{trailingZeros, under}
 use borrow.Author.Tests.{eqb-true, eq-eqb, ne-eqb, lt-ltb, le-ltb, leb-false, lt-leb, le-leb}
 use mathlib.Core.List.{List}
-use lib.ListN.{length, getD, set}
-use lib.Seq.{getD-set-same, getD-set-other}
+use lib.ListN.{getD, set}
 use Rattle.bounded.specs.Search.{any}
 use Rattle.bounded.proofs.Search.{any-at, any-found, any-same, same-truth, is-false, true-not-false, true-or-false, and-now, and-never, and-left, and-right, or-now, or-then}
-use Rattle.words.specs.Sets.{Represents, Rows, gathered, bit, union, intersection, single, lowest, without, exceeds}
+use Rattle.words.specs.Sets.{Represents, gathered, bit, union, intersection, single, lowest, without, exceeds}
 
 -- ---- a bit at a time
 
@@ -407,12 +406,3 @@ module _ (n x : ℕ) (table : List ℕ) where
 pub without-less : (x t : ℕ) → (x ≡ 0 → ⊥) → without x t < x
 unfolding without
 without-less x t n = omega (arith, pow-pos t)
-
--- ---- words in a list: one more row
-
-pub rows-more : (xs : List ℕ) (test : ℕ → ℕ → Bool) (s x : ℕ) → s < length xs → Rows s xs test → Represents x (test s) → Rows (s + 1) (set xs s x) test
-rows-more xs test s x l before here u h t =
-    elim (decLt u s) [
-      | yes k ↦ ap (λ (y : ℕ). bit y t) (getD-set-other xs s u x 0 (ne-of-lt k)) ∙ before u k t
-      | no k ↦ let e : s ≡ u = omega arith in subst (λ (v : ℕ). bit (getD (set xs s x) v 0) t ≡ test v t) e (ap (λ (y : ℕ). bit y t) (getD-set-same xs s x 0 l) ∙ here t)
-    ]

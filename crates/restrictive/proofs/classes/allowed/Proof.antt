@@ -5,7 +5,7 @@ use borrow.Author.Needs.{needs}
 use lib.ListN.{getD}
 use Rattle.words.specs.Sets.{bit}
 use Rattle.part.specs.Record.{class}
-use Rattle.restrictive.proofs.Arrays.{Filled, filled-none, filled-more}
+use Rattle.words.proofs.Arrays.{Filled, filled-none, filled-more}
 use Rattle.restrictive.proofs.classes.allowed.Statement.{statement}
 use Rattle.restrictive.proofs.classes.allowed.Tie as tie
 

@@ -6,7 +6,7 @@ use lib.Dec.{eqb}
 use Rattle.words.specs.Sets.{bit}
 use Rattle.words.proofs.Sets.{bit-single}
 use Rattle.part.specs.Record.{class}
-use Rattle.restrictive.proofs.Arrays.{Filled, filled-none, filled-more}
+use Rattle.words.proofs.Arrays.{Filled, filled-none, filled-more}
 use Rattle.restrictive.proofs.classes.singles.Statement.{statement}
 use Rattle.restrictive.proofs.classes.singles.Tie as tie
 

@@ -1,4 +1,4 @@
-use Rattle.restrictive.specs.Tests.{own-rule}
+use Rattle.restrictive.specs.Sets.{own-rule}
 use Rattle.restrictive.proofs.event.own_rule.Statement.{statement}
 use Rattle.restrictive.proofs.event.own_rule.Tie as tie
 

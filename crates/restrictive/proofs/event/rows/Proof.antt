@@ -4,7 +4,7 @@ use native.Mathlib.Omega.{arith}
 use borrow.Author.Needs.{needs}
 use Rattle.words.specs.Sets.{bit}
 use Rattle.restrictive.specs.Tests.{leads}
-use Rattle.restrictive.proofs.Arrays.{Filled, filled-none, filled-more}
+use Rattle.words.proofs.Arrays.{Filled, filled-none, filled-more}
 use Rattle.restrictive.proofs.event.rows.Statement.{statement}
 use Rattle.restrictive.proofs.event.rows.Tie as tie
 

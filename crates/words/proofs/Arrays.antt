@@ -1,12 +1,22 @@
 -- Arrays of 64 words that a loop fills row by row. Assumes nothing.
 use Prim.Native.Nat.{ℕ, _+_, _<_}
-use mathlib.Core.Path.{_≡_, ap, _∙_}
+use mathlib.Core.Path.{_≡_, ap, _∙_, subst}
 use mathlib.Core.Bool.{Bool}
 use mathlib.Core.List.{List}
+use native.Mathlib.Nat.{ne-of-lt}
+use native.Mathlib.Decide.{decLt}
 use native.Mathlib.Omega.{arith}
-use lib.ListN.{length, set, replicate, length-replicate, length-set}
-use Rattle.words.specs.Sets.{Represents, Rows}
-use Rattle.words.proofs.Sets.{rows-more}
+use lib.Seq.{getD-set-same, getD-set-other}
+use lib.ListN.{length, getD, set, replicate, length-replicate, length-set}
+use Rattle.words.specs.Sets.{bit, Represents, Rows}
+
+-- One row more.
+rows-more : (xs : List ℕ) (test : ℕ → ℕ → Bool) (s x : ℕ) → s < length xs → Rows s xs test → Represents x (test s) → Rows (s + 1) (set xs s x) test
+rows-more xs test s x l before here u h t =
+    elim (decLt u s) [
+      | yes k ↦ ap (λ (y : ℕ). bit y t) (getD-set-other xs s u x 0 (ne-of-lt k)) ∙ before u k t
+      | no k ↦ let e : s ≡ u = omega arith in subst (λ (v : ℕ). bit (getD (set xs s x) v 0) t ≡ test v t) e (ap (λ (y : ℕ). bit y t) (getD-set-same xs s x 0 l) ∙ here t)
+    ]
 
 -- The first s rows pass the test.
 pub record Filled (test : ℕ → ℕ → Bool) (s : ℕ) (xs : List ℕ) : Type 0 where
