@@ -113,12 +113,13 @@ permitting b (suc (suc k)) i offers allowed one o w s h c l =
 -- All of it together: what the code has made is the sets of the event.
 pub event-sets : (b : List ℕ) (k i n : ℕ) (rows led closure classes own offers allowed : List ℕ) → n ≡ states b → 1 ≤ k → k < 5
     → RecordSets b closure classes own → Rows (states b) rows (leads b i) → Rows n led (λ s. gathered n (getD rows s 0) own)
-    → Offered n k rows led closure classes own offers → Permitted b k offers allowed → EventSets b (rule-at k) i rows led offers allowed
+    → Offered n k rows led closure classes own offers → Permitted b k offers allowed
+    → EventSets b (rule-at k) i rows offers allowed × Rows (states b) led (led-to b i)
 event-sets b k i n rows led closure classes own offers allowed e one five sets leading g o p =
     let to = leading-to b i rows led closure classes own sets leading (subst (λ (m : ℕ). Rows m led (λ s. gathered m (getD rows s 0) own)) e g) in
     let off = offering b i rows led closure classes own sets leading k offers one five to
     (subst (λ (m : ℕ). Offered m k rows led closure classes own offers) e o) in
-    record { leading = leading; leading-to = to; offering = off; permitting = permitting b k i offers allowed one off p }
+    (record { leading = leading; offering = off; permitting = permitting b k i offers allowed one off p }, to)
 
 -- The sets of the record.
 pub record-sets : (b : List ℕ) (n : ℕ) (closure classes own : List ℕ) → n ≡ states b → Rows (states b) closure (reach b)

@@ -126,7 +126,7 @@ none-by b k i l e = first-nothing (state-violation b k i) (states b) (λ s h. no
 
 -- ---- the sets say where a rule is broken
 
-module _ (b : List ℕ) (k i : ℕ) (rows led offers allowed : List ℕ) (w : Weighed b k i rows led offers allowed) where
+module _ (b : List ℕ) (k i : ℕ) (rows offers allowed : List ℕ) (w : Weighed b k i rows offers allowed) where
   -- the event does not lead from s to t
   pub no-step : (s t : ℕ) → s < states b → bit (getD rows s 0) t ≡ false → first (states b) (violation-at b k i s t) ≡ none
   no-step s t h e = none-there b k i s t (λ u l. not-led b k i s t u (w .later) (w .last) (w .speaks) (sym (w .sets .leading s h t) ∙ e))
@@ -142,9 +142,9 @@ module _ (b : List ℕ) (k i : ℕ) (rows led offers allowed : List ℕ) (w : We
       permitted b k i s t u (w .later) (w .last) h m (asked s t h e) (sym (w .sets .permitting s h (class b t) (w .below t l)) ∙ p))
 
   -- all classes that it leads to from s are permitted
-  pub all-allowed : (s : ℕ) → s < states b → intersection (getD led s 0) (getD allowed s 0) ≡ getD led s 0 → state-violation b k i s ≡ none
+  pub all-allowed : (led : List ℕ) → Rows (states b) led (led-to b i) → (s : ℕ) → s < states b → intersection (getD led s 0) (getD allowed s 0) ≡ getD led s 0 → state-violation b k i s ≡ none
   unfolding state-violation led-to
-  all-allowed s h e =
+  all-allowed led to s h e =
       first-nothing (λ t. first (states b) (violation-at b k i s t)) (states b) (λ t l.
       ⊎-elim
       (λ p. allowed-step s t h l p (in-allowed t l p))
@@ -153,7 +153,7 @@ module _ (b : List ℕ) (k i : ℕ) (rows led offers allowed : List ℕ) (w : We
     where
       in-led : (t : ℕ) → t < states b → bit (getD rows s 0) t ≡ true → bit (getD led s 0) (class b t) ≡ true
       in-led t l p =
-          w .sets .leading-to s h (class b t)
+          to s h (class b t)
           ∙ any-at (λ v. leads b i s v && eqb (class b v) (class b t)) (states b) t l
           (and-now (leads b i s t) (eqb (class b t) (class b t)) (sym (w .sets .leading s h t) ∙ p) ∙ eq-eqb (class b t) (class b t) refl)
 

@@ -75,23 +75,21 @@ pub record RecordSets (b closure classes own : List ℕ) : Type 0 where
   pub reaches : Rows (states b) classes (reached b)
   pub owns : Rows (states b) own (λ s c. eqb (class b s) c)
 
--- The sets of an event for a rule: its rows, the classes that it leads to, the classes that each state offers, and those that all states
--- of a state's class offer.
-pub record EventSets (b : List ℕ) (r : Rule) (i : ℕ) (rows led offers allowed : List ℕ) : Type 0 where
+-- The sets of an event for a rule: its rows, the classes that each state offers, and those that all states of a state's class offer.
+pub record EventSets (b : List ℕ) (r : Rule) (i : ℕ) (rows offers allowed : List ℕ) : Type 0 where
   pub leading : Rows (states b) rows (leads b i)
-  pub leading-to : Rows (states b) led (led-to b i)
   pub offering : Rows (states b) offers (offer b r i)
   pub permitting : (s : ℕ) → s < states b → (c : ℕ) → c < 64 → bit (getD allowed s 0) c ≡ permits b r i s c
 
 -- The event at place i under rule k + 1, one of the rules 2 to 5 that speaks of it, with its sets.
-pub record Weighed (b : List ℕ) (k i : ℕ) (rows led offers allowed : List ℕ) : Type 0 where
+pub record Weighed (b : List ℕ) (k i : ℕ) (rows offers allowed : List ℕ) : Type 0 where
   pub framed : Framed b
   pub below : ClassesBelow b
   pub placed : i < events b
   pub later : 1 ≤ k
   pub last : k < 5
   pub speaks : concerns (rule-at k) (role-at b i) ≡ true
-  pub sets : EventSets b (rule-at k) i rows led offers allowed
+  pub sets : EventSets b (rule-at k) i rows offers allowed
 
 -- Rule k + 1 speaks of the event at place i, which leads from s to t.
 abbrev pub Asked : List ℕ → ℕ → ℕ → ℕ → ℕ → Type 0

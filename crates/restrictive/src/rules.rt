@@ -6,7 +6,7 @@ ghost use lib.ListN.{getD};
 ghost use Rattle.bounded.specs.Search.{first};
 ghost use Rattle.part.specs.Record.{states, events, class, identifier, Framed};
 ghost use Rattle.restrictive.specs.Tests.{role-at, same-class};
-ghost use Rattle.restrictive.specs.Sets.{concerns, ClassesBelow, RowsWithin, RecordSets, Weighed, offer, Asked, Offered, Permitted};
+ghost use Rattle.restrictive.specs.Sets.{concerns, ClassesBelow, RowsWithin, RecordSets, Weighed, led-to, offer, Asked, Offered, Permitted};
 ghost use Rattle.restrictive.specs.Verdict.{rule-at, violation-at, state-violation, event-violation, rule-violation, first-violation};
 ghost use Rattle.restrictive.specs.Answers.{named, shows};
 ghost use Rattle.words.specs.Sets.{bit, Rows};
@@ -83,11 +83,10 @@ fn at_target(
     s: usize,
     t: usize,
     rows: &[u64; 64],
-    led: &[u64; 64],
     offers: &[u64; 64],
     allowed: &[u64; 64],
 ) -> Found
-    requires { ⌜ Weighed (now b) k i (now rows) (now led) (now offers) (now allowed) ⌝ }
+    requires { ⌜ Weighed (now b) k i (now rows) (now offers) (now allowed) ⌝ }
     requires { ⌜ (s < states (now b)) × (t < states (now b)) ⌝ }
     ensures { λ r. ⌜ shows r ≡ first (states (now (b .entry))) (violation-at (now (b .entry)) k i s t) ⌝ }
 {
@@ -114,8 +113,9 @@ fn at_state(
     offers: &[u64; 64],
     allowed: &[u64; 64],
 ) -> Found
-    requires { ⌜ Weighed (now b) k i (now rows) (now led) (now offers) (now allowed) ⌝ }
+    requires { ⌜ Weighed (now b) k i (now rows) (now offers) (now allowed) ⌝ }
     requires { ⌜ s < states (now b) ⌝ }
+    requires { ⌜ Rows (states (now b)) (now led) (led-to (now b) i) ⌝ }
     ensures { λ r. ⌜ shows r ≡ state-violation (now (b .entry)) k i s ⌝ }
 {
     let to = led[s];
@@ -125,7 +125,7 @@ fn at_state(
     let n = Part::states(b);
     let mut t = 0;
     while t < n {
-        let found = at_target(b, k, i, s, t, rows, led, offers, allowed);
+        let found = at_target(b, k, i, s, t, rows, offers, allowed);
         match found {
             Found::At(_) => return found,
             Found::Nothing => {}
@@ -145,7 +145,8 @@ fn by_sets(
     offers: &[u64; 64],
     allowed: &[u64; 64],
 ) -> Found
-    requires { ⌜ Weighed (now b) k i (now rows) (now led) (now offers) (now allowed) ⌝ }
+    requires { ⌜ Weighed (now b) k i (now rows) (now offers) (now allowed) ⌝ }
+    requires { ⌜ Rows (states (now b)) (now led) (led-to (now b) i) ⌝ }
     ensures { λ r. ⌜ shows r ≡ event-violation (now (b .entry)) k i ⌝ }
 {
     let n = Part::states(b);

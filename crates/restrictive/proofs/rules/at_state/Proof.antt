@@ -37,7 +37,7 @@ intersection-requires c κs = tt
 
 returns : tie.Need-returns Inv-loop μ-loop
 unfolding shows
-returns c = sym (all-allowed _ _ _ _ _ _ _ (c .before .before .before .before .before .pre .0) _ (c .before .before .before .before .before .pre .1) (sym (c .before .intersection .ensures) ∙ c .if1 .taken))
+returns c = sym (all-allowed _ _ _ _ _ _ (c .before .before .before .before .before .pre .0) (now (c .before .before .before .before .before .args .led)) (c .before .before .before .before .before .pre .1 .1) _ (c .before .before .before .before .before .pre .1 .0) (sym (c .before .intersection .ensures) ∙ c .if1 .taken))
 
 states-requires : tie.Need-states-requires Inv-loop μ-loop
 states-requires c κs = omega arith
@@ -47,7 +47,7 @@ unfolding first
 loop-holds c = (omega arith, refl)
 
 at-target-requires : tie.Need-at-target-requires Inv-loop μ-loop
-at-target-requires c κs = (c .before .before .before .before .before .before .before .before .pre .0, (c .before .before .before .before .before .before .before .before .pre .1, omega arith))
+at-target-requires c κs = (c .before .before .before .before .before .before .before .before .pre .0, (c .before .before .before .before .before .before .before .before .pre .1 .0, omega arith))
 
 enum-told : tie.Need-enum-told Inv-loop μ-loop
 enum-told c = search needs

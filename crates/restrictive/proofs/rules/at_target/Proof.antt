@@ -19,7 +19,7 @@ contains-requires c κs = search needs
 
 returns : tie.Need-returns
 unfolding shows
-returns c = sym (no-step _ _ _ _ _ _ _ (c .before .before .before .before .pre .0) _ _ (c .before .before .before .before .pre .1 .0) (sym (c .before .contains .ensures) ∙ not-true _ (c .if1 .taken)))
+returns c = sym (no-step _ _ _ _ _ _ (c .before .before .before .before .pre .0) _ _ (c .before .before .before .before .pre .1 .0) (sym (c .before .contains .ensures) ∙ not-true _ (c .if1 .taken)))
 
 mul-contains-2 : tie.Need-mul-contains-2
 mul-contains-2 c = search needs
@@ -35,14 +35,14 @@ contains-requires-2 c κs = omega (arith, c .before .before .before .before .bef
 
 returns-2 : tie.Need-returns-2
 unfolding shows
-returns-2 c = sym (allowed-step _ _ _ _ _ _ _ (c .before .before .before .before .before .before .before .before .pre .0) _ _ (c .before .before .before .before .before .before .before .before .pre .1 .0) (c .before .before .before .before .before .before .before .before .pre .1 .1) (sym (c .before .before .before .before .before .contains .ensures) ∙ not-false _ (c .before .before .before .before .if1 .left)) (rw (c .before .before .class .ensures .0) at (sym (c .before .contains2 .ensures) ∙ c .if2 .taken)))
+returns-2 c = sym (allowed-step _ _ _ _ _ _ (c .before .before .before .before .before .before .before .before .pre .0) _ _ (c .before .before .before .before .before .before .before .before .pre .1 .0) (c .before .before .before .before .before .before .before .before .pre .1 .1) (sym (c .before .before .before .before .before .contains .ensures) ∙ not-false _ (c .before .before .before .before .if1 .left)) (rw (c .before .before .class .ensures .0) at (sym (c .before .contains2 .ensures) ∙ c .if2 .taken)))
 
 violation-requires : tie.Need-violation-requires
 violation-requires c κs = search needs
 
 returns-3 : tie.Need-returns-3
 unfolding shows
-returns-3 c = ap some (c .violation .ensures) ∙ sym (leaving _ _ _ _ _ _ _ (c .before .before .before .before .before .before .before .before .before .before .pre .0) (c .before .if3 .taken) (c .before .before .before .before .before .before .before .before .before .before .pre .0 .framed .one-state) _ _ (c .before .before .before .before .before .before .before .before .before .before .pre .1 .0) (c .before .before .before .before .before .before .before .before .before .before .pre .1 .1) (sym (c .before .before .before .before .before .before .before .contains .ensures) ∙ not-false _ (c .before .before .before .before .before .before .if1 .left)) (rw (c .before .before .before .before .class .ensures .0) at (sym (c .before .before .before .contains2 .ensures) ∙ c .before .before .if2 .left)))
+returns-3 c = ap some (c .violation .ensures) ∙ sym (leaving _ _ _ _ _ _ (c .before .before .before .before .before .before .before .before .before .before .pre .0) (c .before .if3 .taken) (c .before .before .before .before .before .before .before .before .before .before .pre .0 .framed .one-state) _ _ (c .before .before .before .before .before .before .before .before .before .before .pre .1 .0) (c .before .before .before .before .before .before .before .before .before .before .pre .1 .1) (sym (c .before .before .before .before .before .before .before .contains .ensures) ∙ not-false _ (c .before .before .before .before .before .before .if1 .left)) (rw (c .before .before .before .before .class .ensures .0) at (sym (c .before .before .before .contains2 .ensures) ∙ c .before .before .if2 .left)))
 
 other-requires : tie.Need-other-requires
 other-requires c κs = (c .before .before .before .before .before .before .before .before .before .pre .0 .framed, (c .before .before .before .before .before .before .before .before .before .pre .0 .below, ((c .before .before .before .before .before .before .before .before .before .pre .0 .placed, c .before .before .before .before .before .before .before .before .before .pre .1 .0, c .before .before .before .before .before .before .before .before .before .pre .1 .1), ((omega arith, c .before .before .before .before .before .before .before .before .before .pre .0 .last), ((c .before .before .before .before .before .before .before .before .before .pre .0 .speaks, sym (c .before .before .before .before .before .before .before .before .before .pre .0 .sets .leading _ (c .before .before .before .before .before .before .before .before .before .pre .1 .0) _) ∙ (sym (c .before .before .before .before .before .before .contains .ensures) ∙ not-false _ (c .before .before .before .before .before .if1 .left))), c .before .before .before .before .before .before .before .before .before .pre .0 .sets .offering)))))

@@ -39,17 +39,18 @@ allowed-of-requires c κs = (c .before .before .before .before .before .before .
 by-sets-requires : tie.Need-by-sets-requires
 by-sets-requires c κs =
     let one : 1 ≤ c .before .before .before .before .before .before .before .before .before .before .before .before .before .before .before .before .before .args .k = omega (arith, c .before .before .before .before .before .before .before .before .before .before .before .before .before .if2 .left) in
-    record {
-      framed = c .before .before .before .before .before .before .before .before .before .before .before .before .before .before .before .before .before .pre .0;
-      below = c .before .before .before .before .before .before .before .before .before .before .before .before .before .before .before .before .before .pre .1 .0 .1;
-      placed = c .before .before .before .before .before .before .before .before .before .before .before .before .before .before .before .before .before .pre .1 .1 .0 .0;
-      later = one;
-      last = c .before .before .before .before .before .before .before .before .before .before .before .before .before .before .before .before .before .pre .1 .1 .0 .1;
-      speaks = sym (c .before .before .before .before .before .before .before .before .before .before .before .before .before .before .before .concerned .ensures) ∙ not-false _ (c .before .before .before .before .before .before .before .before .before .before .before .before .before .before .if1 .left);
-      sets =
-          event-sets _ _ _ _ _ _ _ _ _ _ _ (c .before .before .before .before .before .before .before .before .before .before .before .before .states .ensures .0) one (c .before .before .before .before .before .before .before .before .before .before .before .before .before .before .before .before .before .pre .1 .1 .0 .1) (c .before .before .before .before .before .before .before .before .before .before .before .before .before .before .before .before .before .pre .1 .1 .1) (c .before .before .before .before .before .before .before .before .before .before .before .rows .ensures) (c .before .before .before .before .before .before .before .before .before .gather-each .ensures)
-          (c .before .before .before .before .before .before .offers-of .ensures) (c .before .before .before .before .allowed-of .ensures);
-    }
+    let made = event-sets _ _ _ _ _ _ _ _ _ _ _ (c .before .before .before .before .before .before .before .before .before .before .before .before .states .ensures .0) one (c .before .before .before .before .before .before .before .before .before .before .before .before .before .before .before .before .before .pre .1 .1 .0 .1) (c .before .before .before .before .before .before .before .before .before .before .before .before .before .before .before .before .before .pre .1 .1 .1) (c .before .before .before .before .before .before .before .before .before .before .before .rows .ensures) (c .before .before .before .before .before .before .before .before .before .gather-each .ensures) (c .before .before .before .before .before .before .offers-of .ensures) (c .before .before .before .before .allowed-of .ensures) in (
+      record {
+        framed = c .before .before .before .before .before .before .before .before .before .before .before .before .before .before .before .before .before .pre .0;
+        below = c .before .before .before .before .before .before .before .before .before .before .before .before .before .before .before .before .before .pre .1 .0 .1;
+        placed = c .before .before .before .before .before .before .before .before .before .before .before .before .before .before .before .before .before .pre .1 .1 .0 .0;
+        later = one;
+        last = c .before .before .before .before .before .before .before .before .before .before .before .before .before .before .before .before .before .pre .1 .1 .0 .1;
+        speaks = sym (c .before .before .before .before .before .before .before .before .before .before .before .before .before .before .before .concerned .ensures) ∙ not-false _ (c .before .before .before .before .before .before .before .before .before .before .before .before .before .before .if1 .left);
+        sets = made .0;
+      },
+      made .1,
+    )
 
 returns-3 : tie.Need-returns-3
 returns-3 c = c .by-sets .ensures

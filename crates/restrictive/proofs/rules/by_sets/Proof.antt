@@ -25,7 +25,7 @@ unfolding first
 loop-holds c = (omega arith, refl)
 
 at-state-requires : tie.Need-at-state-requires Inv-loop μ-loop
-at-state-requires c κs = (c .before .before .before .before .pre, omega arith)
+at-state-requires c κs = (c .before .before .before .before .pre .0, (omega arith, c .before .before .before .before .pre .1))
 
 enum-told : tie.Need-enum-told Inv-loop μ-loop
 enum-told c = search needs
