@@ -7,3 +7,4 @@ pub mod Places
 pub mod LayoutLaws
 pub mod ReadBack
 pub mod Extensional
+pub mod Proper

@@ -1,7 +1,7 @@
 -- The place of an event and its identifier determine each other, and what the machine has under an identifier stands at its place.
 -- Assumes nothing.
-use Prim.Native.Nat.{ℕ, _<_}
-use mathlib.Core.Path.{_≡_, refl, subst}
+use Prim.Native.Nat.{ℕ, _+_, _≤_, _<_}
+use mathlib.Core.Path.{_≡_, refl, sym, ap, _∙_, subst}
 use mathlib.Core.Logic.{_↔_}
 use mathlib.Core.List.{List}
 use mathlib.Core.Option.{Option, none, some}
@@ -9,11 +9,12 @@ use native.Mathlib.Decide.{ℕ-discrete}
 use native.Mathlib.Omega.{arith}
 use borrow.Author.Tests.{eq-eqb, ne-eqb}
 use lib.Dec.{T}
-use Rattle.bounded.proofs.Search.{first-found, first-at}
+use Rattle.bounded.specs.Search.{first}
+use Rattle.bounded.proofs.Search.{first-more, first-found, first-at, first-hit, first-done}
 use Rattle.machine.specs.Machine.{Kind, absent, event}
 use Rattle.words.specs.Sets.{bit}
 use Rattle.part.specs.Record.{events, identifier, event-kind, level, row}
-use Rattle.part.specs.Machine.{kind-of, at-place, place, event-of, Leads}
+use Rattle.part.specs.Machine.{kind-of, at-place, place, place-or-end, event-of, Leads}
 use Rattle.part.specs.Theorems.{Places}
 use Rattle.part.proofs.Ranges.{ranges}
 
@@ -31,6 +32,60 @@ module _ (b : List ℕ) (e i : ℕ) where
       elim (ℕ-discrete (identifier b i) e)
       [ yes q ↦ (let s = at-same q in cc, q) | no n ↦ absurd (let s = at-other n in let z : _≡_ {A = ℕ} 0 1 = cc in omega arith) ]
 
+module _ (b : List ℕ) (e : ℕ) where
+  -- a place that is found is one of the record's, and e stands there
+  place-stands : (i : ℕ) → place b e ≡ some i → (i < events b) × (identifier b i ≡ e)
+  unfolding place
+  place-stands i p =
+      let w = first-found (at-place b e) (events b) i p in
+      let s = at-some b e (w .at) i (w .found) in
+      (subst (λ (j : ℕ). j < events b) (s .0) (w .below), subst (λ (j : ℕ). identifier b j ≡ e) (s .0) (s .1))
+
+  -- ---- the place, or the number of events
+
+  pub place-end-none : place b e ≡ none → place-or-end b e ≡ events b
+  unfolding place-or-end
+  place-end-none p = rw (p, place-or-end)
+
+  pub place-end-some : (i : ℕ) → place b e ≡ some i → place-or-end b e ≡ i
+  unfolding place-or-end
+  place-end-some i p = rw (p, place-or-end)
+
+  -- below the number of events it is the place; otherwise e has none
+  pub end-placed : place-or-end b e < events b → place b e ≡ some (place-or-end b e)
+  end-placed h = go (place b e) refl
+    where
+      go : (o : Option ℕ) → place b e ≡ o → place b e ≡ some (place-or-end b e)
+      go none p = absurd (omega (arith, place-end-none p))
+      go (some i) p = p ∙ ap some (sym (place-end-some i p))
+
+  pub end-absent : events b ≤ place-or-end b e → place b e ≡ none
+  end-absent h = go (place b e) refl
+    where
+      go : (o : Option ℕ) → place b e ≡ o → place b e ≡ none
+      go none p = p
+      go (some i) p = absurd (omega (arith, place-end-some i p, place-stands i p .0))
+
+  -- ---- the loop that looks for e: not at the places below i
+
+  abbrev pub Missed : ℕ → Type 0
+  Missed i = first i (at-place b e) ≡ none
+
+  pub missed-none : Missed 0
+  unfolding first
+  missed-none = refl
+
+  pub missed-next : (i : ℕ) → Missed i → (identifier b i ≡ e → ⊥) → Missed (i + 1)
+  missed-next i p n = first-more (at-place b e) i p (at-other b e i n)
+
+  pub place-hit : (i : ℕ) → i < events b → Missed i → identifier b i ≡ e → i ≡ place-or-end b e
+  unfolding place
+  place-hit i h p q = sym (place-end-some i (first-hit (at-place b e) (events b) i i h p (at-same b e i q)))
+
+  pub place-done : (i : ℕ) → i ≡ events b → Missed i → i ≡ place-or-end b e
+  unfolding place
+  place-done i q p = q ∙ sym (place-end-none (first-done (at-place b e) (events b) i q p))
+
 pub places : Places
 unfolding place
 places b a = record {
@@ -40,10 +95,7 @@ places b a = record {
     found = at-same b (identifier b i) i refl;
     before = λ j l. at-other b (identifier b i) j (λ q. omega (arith, ranges b a .identifiers-rise j i l h));
   });
-  stands = λ e i p.
-      let w = first-found (at-place b e) (events b) i p in
-      let s = at-some b e (w .at) i (w .found) in
-      (subst (λ (j : ℕ). j < events b) (s .0) (w .below), subst (λ (j : ℕ). identifier b j ≡ e) (s .0) (s .1));
+  stands = place-stands b;
 }
 
 module _ (b : List ℕ) (e : ℕ) where

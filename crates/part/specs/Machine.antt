@@ -33,6 +33,10 @@ at-place b e i = elim (eqb (identifier b i) e) [ true ↦ some i | false ↦ non
 unfoldable pub place : List ℕ → ℕ → Option ℕ
 place b e = first (events b) (at-place b e)
 
+-- Its place, or the number of events where it has none.
+unfoldable pub place-or-end : List ℕ → ℕ → ℕ
+place-or-end b e = elim (place b e) [ none ↦ events b | some i ↦ i ]
+
 -- The event with identifier e, with its kind and level.
 unfoldable pub event-of : List ℕ → ℕ → Event
 event-of b e = elim (place b e) [ none ↦ absent | some i ↦ event (kind-of (event-kind b i)) (level b i) ]

@@ -13,6 +13,15 @@ P =
     ++ 0x02 ∷ 0x00 ∷ 0x01 ∷ 0x00 ∷ []
     ++ digits 8 2 ++ digits 8 1 ++ digits 8 1 ++ digits 8 2
 
+-- Q: one state, and low input 2 stays.
+abbrev pub Q : List ℕ
+Q =
+    0x11 ∷ 0 ∷ 0 ∷ 0 ∷ 0x01 ∷ 0 ∷ []
+    ++ 0x00 ∷ 0x01 ∷ 0x00 ∷ 0x01 ∷ []
+    ++ 0x00 ∷ []
+    ++ 0x02 ∷ 0x00 ∷ 0x00 ∷ 0x00 ∷ []
+    ++ digits 8 1
+
 -- Z, 11 bytes: one state, no events.
 abbrev pub Z : List ℕ
 Z = 5 ∷ 0 ∷ 0 ∷ 0 ∷ 1 ∷ 0 ∷ 0 ∷ 1 ∷ 0 ∷ 0 ∷ 0 ∷ []

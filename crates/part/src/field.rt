@@ -1,9 +1,21 @@
 // The part type: its limits, and each field of its record (specs/Record.antt).
 ghost use mathlib.Core.Path.{_≡_};
-ghost use Prim.Native.Nat.{_<_, _≤_, _^_};
+ghost use Prim.Native.Nat.{_+_, _<_, _≤_, _^_, max};
 ghost use lib.ListN.{length};
-ghost use Rattle.part.specs.Record.{body-length, kind, observer, states, start, events, class, entry-at, identifier, event-kind, level, row, Framed};
+ghost use Rattle.part.specs.Record.{body-length, kind, observer, states, start, events, class, classes-below, entry-at, identifier, event-kind, level, row, Framed};
+ghost use Rattle.part.specs.Machine.{place-or-end};
 use words::le;
+
+// One above the largest class so far, with the class c.
+pub fn classes_with(count: usize, c: usize) -> usize
+    requires { ⌜ c < 256 ⌝ }
+    ensures { λ r. ⌜ r ≡ max count (c + 1) ⌝ }
+{
+    if count <= c {
+        return c + 1;
+    }
+    count
+}
 
 pub struct Part;
 
@@ -75,8 +87,24 @@ impl Part {
         le::u8_at(b, 10 + s)
     }
 
+    // How many classes there are: one above the largest.
+    pub fn classes(b: &[u8]) -> usize
+        requires { ⌜ Framed (now b) ⌝ }
+        ensures { λ r. ⌜ r ≡ classes-below (now (b .entry)) (states (now (b .entry))) ⌝ }
+        ensures { λ r. ⌜ r ≤ 256 ⌝ }
+    {
+        let n = Part::states(b);
+        let mut count = 0;
+        let mut s = 0;
+        while s < n {
+            count = classes_with(count, Part::class(b, s));
+            s += 1;
+        }
+        count
+    }
+
     // Where the entry of the event at place i stands.
-    fn entry(b: &[u8], i: usize) -> usize
+    pub fn entry(b: &[u8], i: usize) -> usize
         requires { ⌜ Framed (now b) ⌝ }
         requires { ⌜ i < events (now b) ⌝ }
         ensures { λ r. ⌜ r ≡ entry-at (now (b .entry)) i ⌝ }
@@ -91,6 +119,22 @@ impl Part {
         ensures { λ r. ⌜ r < 2 ^ 16 ⌝ }
     {
         le::u16_at(b, Part::entry(b, i))
+    }
+
+    // The place of the event with identifier e, or the number of events where it has none.
+    pub fn place(b: &[u8], e: usize) -> usize
+        requires { ⌜ Framed (now b) ⌝ }
+        ensures { λ r. ⌜ r ≡ place-or-end (now (b .entry)) e ⌝ }
+    {
+        let m = Part::events(b);
+        let mut i = 0;
+        while i < m {
+            if Part::identifier(b, i) == e {
+                return i;
+            }
+            i += 1;
+        }
+        i
     }
 
     pub fn event_kind(b: &[u8], i: usize) -> usize

@@ -1,6 +1,6 @@
 // The rejections 1 to 8 of a record, in order (specs/Rejections.antt): one function for each condition, and the cascade.
 ghost use mathlib.Core.Path.{_≡_};
-ghost use Prim.Native.Nat.{_+_, _<_, max};
+ghost use Prim.Native.Nat.{_+_, _<_};
 ghost use mathlib.Core.Bool.{false};
 ghost use Rattle.part.specs.Record.{states, events, Framed};
 ghost use Rattle.part.specs.Rejections.{too-short, wrong-length, wrong-kind, out-of-range, wrong-size, misnumbered, falls-at, falling, unknown-at, unknown-kind, misordered, strays-at, row-strays, stray-bit, rejection};
@@ -8,6 +8,7 @@ ghost use Rattle.part.specs.Answers.{number-of, says};
 use crate::answer::Rejection;
 use crate::answer::Screening;
 use crate::field::Part;
+use crate::field::classes_with;
 use words::set;
 
 impl Rejection {
@@ -78,17 +79,6 @@ fn wrong_size(b: &[u8]) -> bool
     let n = Part::states(b);
     let m = Part::events(b);
     Part::body_length(b) != 4 + n + 4 * m + 8 * (m * n)
-}
-
-// One above the largest class so far, with the class c.
-fn classes_with(count: usize, c: usize) -> usize
-    requires { ⌜ c < 256 ⌝ }
-    ensures { λ r. ⌜ r ≡ max count (c + 1) ⌝ }
-{
-    if count <= c {
-        return c + 1;
-    }
-    count
 }
 
 fn misnumbered(b: &[u8]) -> bool

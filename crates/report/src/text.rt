@@ -4,7 +4,7 @@ ghost use Prim.Native.Nat.{_+_, _≤_};
 ghost use mathlib.Core.List.{_++_};
 ghost use lib.ListN.{length};
 ghost use Rattle.report.specs.Line.{last-digit, decimal};
-ghost use Rattle.report.specs.Laid.{Laid};
+ghost use Rattle.words.specs.Laid.{Laid};
 
 fn last_digit(n: usize) -> u8
     ensures { λ r. ⌜ r ≡ last-digit n ⌝ }

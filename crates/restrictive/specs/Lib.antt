@@ -4,5 +4,4 @@ pub mod Sets
 pub mod Answers
 pub mod Theorems
 pub mod Judged
-pub mod Starred
 pub mod Examples

@@ -2,8 +2,8 @@
 use Prim.Native.Nat.{ℕ, zero, suc, _+_, _*_, _/_, _%_, _^_, _≤_, _<_, suc-le-suc}
 use mathlib.Core.Path.{_≡_, refl, sym, ap, _∙_, subst}
 use mathlib.Core.Logic.{⊎-elim}
-use mathlib.Core.List.{List, [], _∷_, _++_, append-assoc}
-use native.Mathlib.Nat.{zero-add, suc-add, add-zero, add-assoc, pow-succ', one-mul, le-step, lt-suc-self, le-of-suc-le-suc, not-suc-le-zero, eq-or-lt-of-le, zero-mul, mul-one, mul-comm}
+use mathlib.Core.List.{List, [], _∷_, _++_, append-assoc, append-nil}
+use native.Mathlib.Nat.{zero-add, suc-add, add-zero, add-assoc, pow-succ', one-mul, le-step, lt-suc-self, le-of-suc-le-suc, not-suc-le-zero, eq-or-lt-of-le, zero-mul, mul-one, mul-comm, div-one, div-div-eq-div-mul}
 use native.Mathlib.Numerals.{add-one}
 use native.Mathlib.Decide.{decLt}
 use native.Mathlib.Omega.{arith}
@@ -112,6 +112,35 @@ pub each-same : (n : ℕ) (f g : ℕ → List ℕ) → ((i : ℕ) → i < n → 
 unfolding each
 each-same zero f g h = refl
 each-same (suc n) f g h = rw (each-same n f g (λ i l. h i (le-step l)), h n (lt-suc-self n))
+
+-- The first m pieces, and the n behind them.
+pub each-add : (m n : ℕ) (f : ℕ → List ℕ) → each (m + n) f ≡ each m f ++ each n (λ i. f (m + i))
+unfolding each
+each-add m zero f = ap (λ (k : ℕ). each k f) (add-zero m) ∙ sym (append-nil (each m f))
+each-add m (suc n) f =
+    let whole : m + suc n ≡ suc (m + n) = omega arith in
+    ap (λ (k : ℕ). each k f) whole
+    ∙ ap (λ (l : List ℕ). l ++ f (m + n)) (each-add m n f)
+    ∙ append-assoc (each m f) (each n (λ i. f (m + i))) (f (m + n))
+
+-- Pieces numbered by pairs.
+pub each-product : (m n : ℕ) (f : ℕ → List ℕ) → each m (λ a. each n (λ b. f (a * n + b))) ≡ each (m * n) f
+unfolding each
+each-product zero n f = ap (λ (k : ℕ). each k f) (sym (zero-mul n))
+each-product (suc m) n f =
+    let whole : m * n + n ≡ suc m * n = omega arith in
+    ap (λ (l : List ℕ). l ++ each n (λ b. f (m * n + b))) (each-product m n f)
+    ∙ sym (each-add (m * n) n f)
+    ∙ ap (λ (k : ℕ). each k f) whole
+
+-- The bytes of a number, in two parts.
+pub digits-split : (j k v : ℕ) → digits (j + k) v ≡ digits j v ++ digits k (v / 256 ^ j)
+unfolding digits
+digits-split zero k v = ap (λ (n : ℕ). digits n v) (zero-add k) ∙ ap (digits k) (sym (div-one v))
+digits-split (suc j) k v =
+    ap (λ (n : ℕ). digits n v) (suc-add j k)
+    ∙ ap (λ (l : List ℕ). v % 256 ∷ l) (digits-split j k (v / 256))
+    ∙ ap (λ (q : ℕ). v % 256 ∷ (digits j (v / 256) ++ digits k q)) (div-div-eq-div-mul v 256 (256 ^ j) ∙ ap (λ (p : ℕ). v / p) (sym (pow-succ' 256 j)))
 
 -- Pieces of k bytes that are the parts of b from `at` on: together they are one part of b.
 pub each-parts : (n k : ℕ) (chunk : ℕ → List ℕ) (b : List ℕ) (at : ℕ)

@@ -1,24 +1,24 @@
 -- The laws of sets of states. Membership after each operation, when two sets are equal, and the lowest member. Assumes nothing.
 use Prim.Native.Nat.{ℕ, zero, suc, _+_, _-_, _*_, _/_, _%_, _^_, _≤_, _<_, min, max}
 use mathlib.Core.Path.{_≡_, refl, sym, ap, _∙_, subst}
-use mathlib.Core.Bool.{Bool, true, false, not, _||_, _&&_}
+use mathlib.Core.Bool.{Bool, true, false, not, _||_, _&&_, cond}
 use mathlib.Core.Logic.{_↔_, ⊎-elim}
-use native.Mathlib.Nat.{div-one, div-eq-of-lt, mod-lt, lt-of-lt-of-le, pow-succ', zero-div, mod-eq-of-lt, one-mul, le-div-iff-mul-le, lt-of-not-le}
+use native.Mathlib.Nat.{div-one, div-eq-of-lt, mod-lt, lt-of-lt-of-le, pow-succ', zero-div, mod-eq-of-lt, one-mul, le-div-iff-mul-le, lt-of-not-le, le-step, lt-suc-self}
 use native.Mathlib.Numerals.{one-add, add-one}
 use native.Mathlib.Decide.{decLe, decLt, ℕ-discrete as decEq}
 use native.Mathlib.Omega.{arith}
 use mathlib.Core.Bool.{and-true, and-false, or-true, or-false, or-assoc}
 use lib.Dec.{eqb, ltb, leb, lit<, eqb·suc-suc, eqb·zero-suc, eqb·suc-zero}
 use lib.Arith.{digits-mod}
-use lib.Pow.{shr-shr, pow-mono, pow-pos, pow-lt, field, mod-mod-pow}
+use lib.Pow.{shr-shr, pow-mono, pow-pos, pow-lt, field, mod-mod-pow, high, low}
 use lib.Bits.{bitAnd, bitOr, and-shr, or-shr, and-step, or-step, and-lt, or-lt, and-self}
 use lib.Count.{trailingZeros, under}
 use borrow.Author.Tests.{eqb-true, eq-eqb, ne-eqb, lt-ltb, le-ltb, leb-false, lt-leb, le-leb}
 use mathlib.Core.List.{List}
-use lib.ListN.{getD, set}
+use lib.ListN.{getD}
 use Rattle.bounded.specs.Search.{any}
 use Rattle.bounded.proofs.Search.{any-at, any-found, any-same, same-truth, is-false, true-not-false, true-or-false, and-now, and-never, and-left, and-right, or-now, or-then}
-use Rattle.words.specs.Sets.{Represents, gathered, bit, union, intersection, single, lowest, without, exceeds}
+use Rattle.words.specs.Sets.{Represents, gathered, bit, union, intersection, single, lowest, without, exceeds, mask}
 
 -- ---- a bit at a time
 
@@ -158,6 +158,74 @@ all-below (suc k) x f =
     let h : x / 2 < 2 ^ k = all-below k (x / 2) (λ t l. sym (bit-next x t) ∙ f (suc t) (omega arith)) in
     omega arith
 
+-- ---- two words in one: u in the places below p, and v from p on
+
+pub bit-low : (v p t : ℕ) {u : ℕ} → u < 2 ^ p → t < p → bit (v * 2 ^ p + u) t ≡ bit u t
+bit-low v p t {u} h l = sym (bit-mod p (v * 2 ^ p + u) t l) ∙ ap (λ (z : ℕ). bit z t) (low v p h)
+
+pub bit-high : (v p t : ℕ) {u : ℕ} → u < 2 ^ p → p ≤ t → bit (v * 2 ^ p + u) t ≡ bit v (t - p)
+unfolding bit
+bit-high v p t {u} h l =
+    let place : p + (t - p) ≡ t = omega arith in
+    ap (λ (y : ℕ). eqb (y % 2) 1)
+    (ap (λ (k : ℕ). (v * 2 ^ p + u) / 2 ^ k) (sym place)
+    ∙ sym (shr-shr (v * 2 ^ p + u) p (t - p))
+    ∙ ap (λ (z : ℕ). z / 2 ^ (t - p)) (high v p h))
+
+-- ---- the numbers below n that pass a test
+
+-- The members of x, or none.
+pub bit-cond : (b : Bool) (x t : ℕ) → bit (cond b x 0) t ≡ (b && bit x t)
+bit-cond true x t = refl
+bit-cond false x t = bit-zero t
+
+-- The set 1 is that of 0 alone.
+pub bit-one : (t : ℕ) → bit 1 t ≡ eqb 0 t
+unfolding single
+bit-one t = bit-single 0 t
+
+pub mask-lt : (n : ℕ) (test : ℕ → Bool) → mask n test < 2 ^ n
+unfolding mask
+mask-lt zero test = omega arith
+mask-lt (suc n) test = more (test n) (mask n test) (mask-lt n test)
+  where
+    more : (b : Bool) (u : ℕ) → u < 2 ^ n → u + cond b (2 ^ n) 0 < 2 ^ suc n
+    more true u h = omega arith
+    more false u h = omega arith
+
+pub bit-mask : (n : ℕ) (test : ℕ → Bool) (t : ℕ) → bit (mask n test) t ≡ (ltb t n && test t)
+unfolding mask
+bit-mask zero test t = bit-zero t ∙ sym (and-never (ltb t 0) (test t) (le-ltb t 0 (omega arith)))
+bit-mask (suc n) test t =
+    let top : ℕ = cond (test n) 1 0 in
+    ap (λ (z : ℕ). bit z t) (above (test n) (mask n test))
+    ∙ elim (decLt t n) [
+      | yes l ↦
+          bit-low top n t (mask-lt n test) l ∙ bit-mask n test t
+          ∙ ap (λ (p : Bool). p && test t) (lt-ltb t n l ∙ sym (lt-ltb t (suc n) (omega arith)))
+      | no l ↦ bit-high top n t (mask-lt n test) (omega arith) ∙ bit-cond (test n) 1 (t - n) ∙ last (omega arith)
+    ]
+  where
+    above : (b : Bool) (u : ℕ) → u + cond b (2 ^ n) 0 ≡ cond b 1 0 * 2 ^ n + u
+    above true u = omega arith
+    above false u = omega arith
+
+    last : n ≤ t → (test n && bit 1 (t - n)) ≡ (ltb t (suc n) && test t)
+    last l =
+        elim (decEq t n) [
+          | yes e ↦
+              ap (λ (p : Bool). test n && p) (bit-one (t - n) ∙ eq-eqb 0 (t - n) (omega arith)) ∙ and-true (test n) ∙ ap test (sym e)
+              ∙ sym (and-now (ltb t (suc n)) (test t) (lt-ltb t (suc n) (omega arith)))
+          | no e ↦
+              ap (λ (p : Bool). test n && p) (bit-one (t - n) ∙ ne-eqb 0 (t - n) (λ z. e (omega arith))) ∙ and-false (test n)
+              ∙ sym (and-never (ltb t (suc n)) (test t) (le-ltb t (suc n) (omega arith)))
+        ]
+
+pub mask-same : (n : ℕ) (f g : ℕ → Bool) → ((t : ℕ) → t < n → f t ≡ g t) → mask n f ≡ mask n g
+unfolding mask
+mask-same zero f g h = refl
+mask-same (suc n) f g h = rw (mask-same n f g (λ t l. h t (le-step l)), h n (lt-suc-self n))
+
 -- `exceeds n x` is false exactly where all members of x are below n.
 pub within-members : (n x : ℕ) → exceeds n x ≡ false → (t : ℕ) → n ≤ t → bit x t ≡ false
 unfolding exceeds
@@ -241,6 +309,14 @@ lowest-member x h n = trailing 64 x h n .0
 pub lowest-below : (x : ℕ) → x < 2 ^ 64 → (x ≡ 0 → ⊥) → lowest x < 64
 unfolding lowest
 lowest-below x h n = trailing 64 x h n .1
+
+-- The lowest member is below m where all members are.
+pub lowest-lt : (m x : ℕ) → m ≤ 64 → x < 2 ^ m → (x ≡ 0 → ⊥) → lowest x < m
+lowest-lt m x l h n =
+    elim (decLt (lowest x) m) [
+      | yes k ↦ k
+      | no k ↦ absurd (true-not-false (lowest-member x (lt-of-lt-of-le h (pow-mono l)) n .member) (none-above x m (lowest x) h (omega arith)))
+    ]
 
 -- ---- bounds
 

@@ -1,2 +1,4 @@
 pub mod Sets
+pub mod Pairs
 pub mod LittleEndian
+pub mod Laid

@@ -1,7 +1,7 @@
 -- Sets of states as 64-bit words: t is a member of x where bit t of x is set, bit 0 lowest (document 01, "The part record").
-use Prim.Native.Nat.{ℕ, _-_, _/_, _%_, _^_, _<_}
+use Prim.Native.Nat.{ℕ, zero, suc, _+_, _-_, _/_, _%_, _^_, _<_}
 use mathlib.Core.Path.{_≡_}
-use mathlib.Core.Bool.{Bool, _&&_}
+use mathlib.Core.Bool.{Bool, _&&_, cond}
 use mathlib.Core.List.{List}
 use lib.ListN.{getD}
 use lib.Dec.{eqb, leb}
@@ -36,6 +36,11 @@ without x t = x - 2 ^ t
 -- x has a member at n or above.
 unfoldable pub exceeds : ℕ → ℕ → Bool
 exceeds n x = leb (2 ^ n) x
+
+-- The set of the numbers below n that pass the test.
+unfoldable pub mask : ℕ → (ℕ → Bool) → ℕ
+mask zero test = 0
+mask (suc n) test = mask n test + cond (test n) (2 ^ n) 0
 
 -- The members of x are exactly the numbers that pass the test.
 abbrev pub Represents : ℕ → (ℕ → Bool) → Type 0

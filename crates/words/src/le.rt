@@ -2,7 +2,8 @@
 ghost use mathlib.Core.Path.{_≡_};
 ghost use Prim.Native.Nat.{_+_, _<_, _≤_, _^_};
 ghost use lib.ListN.{length};
-ghost use Rattle.words.specs.LittleEndian.{byte, number};
+ghost use Rattle.words.specs.LittleEndian.{byte, number, digits};
+ghost use Rattle.words.specs.Laid.{over};
 
 pub fn u8_at(s: &[u8], at: usize) -> usize
     requires { ⌜ at + 1 ≤ length (now s) ⌝ }
@@ -35,4 +36,29 @@ pub fn u64_at(s: &[u8], at: usize) -> u64
     let low = u32_at(s, at) as u64;
     let high = u32_at(s, at + 4) as u64;
     low + 4294967296 * high
+}
+
+// The writers lay the lowest bytes of v over a slice, from place at on.
+pub fn put16(out: &mut [u8], at: usize, v: u64)
+    requires { ⌜ at + 2 ≤ length (now out) ⌝ }
+    ensures { λ _. ⌜ now (out .exit) ≡ over (now (out .entry)) at (digits 2 v) ⌝ }
+{
+    out[at] = (v % 256) as u8;
+    out[at + 1] = (v / 256 % 256) as u8;
+}
+
+pub fn put32(out: &mut [u8], at: usize, v: u64)
+    requires { ⌜ at + 4 ≤ length (now out) ⌝ }
+    ensures { λ _. ⌜ now (out .exit) ≡ over (now (out .entry)) at (digits 4 v) ⌝ }
+{
+    put16(out, at, v);
+    put16(out, at + 2, v / 65536);
+}
+
+pub fn put64(out: &mut [u8], at: usize, v: u64)
+    requires { ⌜ at + 8 ≤ length (now out) ⌝ }
+    ensures { λ _. ⌜ now (out .exit) ≡ over (now (out .entry)) at (digits 8 v) ⌝ }
+{
+    put32(out, at, v);
+    put32(out, at + 4, v / 4294967296);
 }

@@ -1,7 +1,7 @@
 use native.Mathlib.Omega.{arith}
 use Rattle.restrictive.specs.Answers.{means}
 use Rattle.report.specs.Line.{line}
-use Rattle.report.proofs.Laying.{laid-start}
+use Rattle.words.proofs.Laying.{laid-start}
 use borrow.Author.Needs.{needs}
 use Rattle.report.proofs.line.Statement.{statement}
 use Rattle.report.proofs.line.Tie as tie

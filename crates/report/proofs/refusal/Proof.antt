@@ -1,5 +1,6 @@
 use native.Mathlib.Omega.{arith}
-use Rattle.report.proofs.Laying.{laid-start, laid-refusal}
+use Rattle.words.proofs.Laying.{laid-start}
+use Rattle.report.proofs.Laying.{laid-refusal}
 use borrow.Author.Needs.{needs}
 use Rattle.report.proofs.refusal.Statement.{statement}
 use Rattle.report.proofs.refusal.Tie as tie

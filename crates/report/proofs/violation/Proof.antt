@@ -1,6 +1,7 @@
 use native.Mathlib.Omega.{arith}
 use Rattle.restrictive.specs.Answers.{named}
-use Rattle.report.proofs.Laying.{laid-start, laid-violation}
+use Rattle.words.proofs.Laying.{laid-start}
+use Rattle.report.proofs.Laying.{laid-violation}
 use borrow.Author.Needs.{needs}
 use Rattle.report.proofs.violation.Statement.{statement}
 use Rattle.report.proofs.violation.Tie as tie

@@ -1,5 +1,5 @@
 use native.Mathlib.Omega.{arith}
-use Rattle.report.proofs.Laying.{then}
+use Rattle.words.proofs.Laying.{then}
 use borrow.Author.Needs.{needs}
 use Rattle.report.proofs.text.labelled.Statement.{statement}
 use Rattle.report.proofs.text.labelled.Tie as tie

@@ -3,7 +3,7 @@ use mathlib.Core.Path.{_≡_, refl, ap, _∙_}
 use native.Mathlib.Omega.{arith}
 use lib.ListN.{length, set, length-set}
 use Rattle.report.specs.Line.{decimal}
-use Rattle.report.specs.Laid.{over}
+use Rattle.words.specs.Laid.{over}
 use Rattle.report.proofs.Decimal.{length-more, length-some}
 use Rattle.report.proofs.Laying.{number-turn, number-end}
 use Rattle.report.proofs.text.number.Statement.{statement}

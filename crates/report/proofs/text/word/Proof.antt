@@ -3,8 +3,8 @@ use mathlib.Core.Path.{_≡_, refl, sym, _∙_}
 use native.Mathlib.Nat.{add-zero}
 use native.Mathlib.Omega.{arith}
 use lib.ListN.{length, drop, length-set}
-use Rattle.report.specs.Laid.{over}
-use Rattle.report.proofs.Laying.{word-turn, word-end}
+use Rattle.words.specs.Laid.{over}
+use Rattle.words.proofs.Laying.{word-turn, word-end}
 use Rattle.report.proofs.text.word.Statement.{statement}
 use Rattle.report.proofs.text.word.Tie as tie
 

@@ -1,0 +1,13 @@
+pub mod Merging
+pub mod Meetings
+pub mod Joinable
+pub mod JoinedClasses
+pub mod JoinedProper
+pub mod JoinedMachine
+pub mod Walking
+pub mod Obstacles
+pub mod Rowing
+pub mod Entering
+pub mod Writing
+pub mod Answering
+pub mod Theorems

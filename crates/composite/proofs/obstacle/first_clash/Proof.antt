@@ -1,0 +1,72 @@
+use Prim.Native.Nat.{ℕ, _-_, _≤_}
+use mathlib.Core.Path.{_≡_, refl, sym, ap, _∙_}
+use mathlib.Core.Option.{none, some}
+use native.Mathlib.Omega.{arith}
+use Rattle.bounded.specs.Search.{first}
+use Rattle.bounded.proofs.Search.{first-more, first-hit, first-done}
+use Rattle.part.proofs.Ranges.{frame}
+use Rattle.composite.specs.Joining.{clash, clash-at, first-clash}
+use Rattle.composite.specs.Answers.{stops, obstacle-of}
+use Rattle.composite.proofs.Obstacles.{clash-here, no-clash-here}
+use Rattle.composite.proofs.obstacle.first_clash.Statement.{statement}
+use Rattle.composite.proofs.obstacle.first_clash.Tie as tie
+
+-- No event before place i clashes.
+abbrev Inv-loop : tie.InvT-loop
+Inv-loop a b m i₀ i = (i ≤ m) × (first i (clash-at a b) ≡ none)
+
+abbrev μ-loop : tie.MeasureT-loop
+μ-loop a b m i₀ i = m - i
+
+events-requires : tie.Need-events-requires Inv-loop μ-loop
+events-requires c κs = omega (arith, frame _ (c .before .before .pre .0) .whole)
+
+loop-holds : tie.Need-loop-holds Inv-loop μ-loop
+unfolding first
+loop-holds c = (omega arith, refl)
+
+clash-at-requires : tie.Need-clash-at-requires Inv-loop μ-loop
+clash-at-requires c κs = let p = c .before .before .before .before .before .pre in (p .0, (p .1, omega arith))
+
+identifier-requires : tie.Need-identifier-requires Inv-loop μ-loop
+identifier-requires c κs = let p = c .before .before .before .before .before .before .before .pre in (frame _ (p .0), omega arith)
+
+returns : tie.Need-returns Inv-loop μ-loop
+unfolding stops obstacle-of first-clash
+returns c =
+    let l = c .before .before .before .before .loop in
+    let here = clash-here _ _ (l .i) (sym (c .before .before .clash-at .ensures) ∙ c .before .if1 .taken) in
+    ap (λ (e : ℕ). some (clash e)) (c .identifier .ensures .0)
+    ∙ sym (first-hit (clash-at _ _) _ (l .i) _ (omega arith) (l .inv .1) here)
+
+add-i : tie.Need-add-i Inv-loop μ-loop
+add-i c = omega arith
+
+loop-less : tie.Need-loop-less Inv-loop μ-loop
+loop-less c = omega arith
+
+loop-again : tie.Need-loop-again Inv-loop μ-loop
+loop-again c =
+    let l = c .before .before .before .loop in
+    let here = no-clash-here _ _ (l .i) (sym (c .before .clash-at .ensures) ∙ c .if1 .left) in
+    (omega arith, first-more _ (l .i) (l .inv .1) here)
+
+returns-2 : tie.Need-returns-2 Inv-loop μ-loop
+unfolding stops first-clash
+returns-2 c = sym (first-done (clash-at _ _) _ (c .before .loop .i) (omega arith) (c .before .loop .inv .1))
+
+pub first-clash-spec : {M : Type 1} → statement M
+first-clash-spec =
+    tie.close
+    (tie.spec
+    Inv-loop
+    μ-loop
+    events-requires
+    loop-holds
+    clash-at-requires
+    identifier-requires
+    returns
+    add-i
+    loop-less
+    loop-again
+    returns-2)

@@ -1,0 +1,115 @@
+-- Records that tell the definitions of Join from their wrong readings: the numbering of states and classes, the order of the merged entries,
+-- a shared event that moves both parts, and the order of the answers.
+use Prim.Native.Nat.{ℕ, _+_, _*_}
+use mathlib.Core.Bool.{Bool, true, _&&_}
+use mathlib.Core.List.{List, [], _∷_, _++_}
+use lib.Dec.{T}
+use lib.ListN.{length, set, take}
+use Rattle.words.specs.LittleEndian.{digits}
+use Rattle.part.specs.Layout.{layout}
+use Rattle.part.specs.Samples.{P, Q, Z}
+use Rattle.restrictive.specs.Verdict.{refused}
+use Rattle.restrictive.specs.Judged.{broken-at}
+use Rattle.composite.specs.Joining.{refusal, clash, first-record, second-record, Joining, length-is, unfit, stopped}
+use Rattle.composite.specs.Computed.{hooked, answered, same-bytes, same-answer}
+
+-- An entry of a low event, and a record for observer 0 from its start, classes, entries and rows.
+abbrev entry : ℕ → ℕ → List ℕ
+entry identifier kind = identifier ∷ 0 ∷ kind ∷ 0 ∷ []
+
+abbrev words : List ℕ → List ℕ
+words [] = []
+words (r ∷ rs) = digits 8 r ++ words rs
+
+unfoldable sample : ℕ → List ℕ → ℕ → List ℕ → List ℕ → List ℕ
+sample start classes m entries rows =
+    digits 4 (4 + length classes + 4 * m + 8 * length rows) ++ 1 ∷ 0 ∷ 0 ∷ length classes ∷ start ∷ m ∷ []
+    ++ classes ++ entries ++ words rows
+
+-- Two parts with events of their own. The pair (a, b) is state 3 a + b, its class 2 cA + cB; event 4 stands before event 5.
+abbrev toggles : List ℕ
+toggles = sample 1 (0 ∷ 1 ∷ []) 1 (entry 5 0) (2 ∷ 1 ∷ [])
+
+abbrev wanders : List ℕ
+wanders = sample 2 (0 ∷ 0 ∷ 1 ∷ []) 1 (entry 4 1) (2 ∷ 5 ∷ 0 ∷ [])
+
+abbrev side-by-side : List ℕ
+side-by-side =
+    sample 5 (0 ∷ 0 ∷ 1 ∷ 2 ∷ 2 ∷ 3 ∷ []) 2 (entry 4 1 ++ entry 5 0)
+    (2 ∷ 5 ∷ 0 ∷ 16 ∷ 40 ∷ 0 ∷ 8 ∷ 16 ∷ 32 ∷ 1 ∷ 2 ∷ 4 ∷ [])
+
+-- Two parts that share event 7: it moves both, and is internal.
+abbrev sender : List ℕ
+sender = sample 0 (0 ∷ 0 ∷ []) 1 (entry 7 1) (2 ∷ 1 ∷ [])
+
+abbrev receiver : List ℕ
+receiver = sample 0 (0 ∷ 0 ∷ []) 1 (entry 7 0) (3 ∷ 2 ∷ [])
+
+abbrev together : List ℕ
+together = sample 0 (0 ∷ 0 ∷ 0 ∷ 0 ∷ []) 1 (entry 7 2) (12 ∷ 8 ∷ 3 ∷ 2 ∷ [])
+
+-- n states of one class, with m low inputs 0, 1, .. that stay.
+abbrev staying : ℕ → ℕ → List ℕ
+staying n m = layout (record {
+  observer = 0;
+  states = n;
+  start = 0;
+  events = m;
+  class = λ s. 0;
+  identifier = λ i. i;
+  event-kind = λ i. 0;
+  level = λ i. 0;
+  row = λ i s. 1;
+})
+
+bytes-so : Bool
+unfolding hooked sample
+bytes-so =
+    same-bytes (hooked toggles wanders) side-by-side
+    && same-bytes (hooked sender receiver) together
+    && same-bytes (hooked Z sender) sender
+
+bytes-as-written : T bytes-so
+unfolding bytes-so
+bytes-as-written = tt
+
+-- Two records, the room of the buffer, and the answer.
+record Line : Type 0 where
+  a : List ℕ
+  b : List ℕ
+  room : ℕ
+  answer : Joining
+
+abbrev line : List ℕ → List ℕ → ℕ → Joining → Line
+line a b room answer = record { a = a; b = b; room = room; answer = answer }
+
+all-answered : List Line → Bool
+unfolding answered sample
+all-answered [] = true
+all-answered (l ∷ ls) = same-answer (answered (l .a) (l .b) (l .room)) (l .answer) && all-answered ls
+
+abbrev table : List Line
+table =
+    -- room for all but one byte, and for all
+    line P Q 51 (stopped (refusal 15))
+    ∷ line P Q 52 (length-is 52)
+    -- a record's own refusal or break comes first, A's before B's, with its side
+    ∷ line P (set P 11 1) 0 (unfit second-record (broken-at 2 1 0 1 0))
+    ∷ line (set P 11 1) (take 5 P) 0 (unfit first-record (broken-at 2 1 0 1 0))
+    ∷ line (take 5 P) (set P 11 1) 0 (unfit first-record (refused 1))
+    ∷ line P (set Q 4 2) 0 (unfit second-record (refused 3))
+    -- 9 before 10: Q for another observer, with an input in the place of P's event 1
+    ∷ line P (set Q 6 0x40) 52 (stopped (refusal 9))
+    ∷ line P (set (set Q 6 0x40) 11 1) 52 (stopped (refusal 9))
+    -- 10: input with input; output with input at another level
+    ∷ line P (set Q 11 1) 52 (stopped (clash 1))
+    ∷ line P (set Q 14 0x40) 52 (stopped (clash 2))
+    -- 10 before 11: 9 x 9 states, and event 0 clashes; 11 before 15
+    ∷ line (staying 9 1) (staying 9 1) 0 (stopped (clash 0))
+    ∷ line (staying 9 0) (staying 8 0) 0 (stopped (refusal 11))
+    ∷ line (staying 8 0) (staying 8 0) 0 (stopped (refusal 15))
+    ∷ []
+
+answers-as-written : T (all-answered table)
+unfolding all-answered
+answers-as-written = tt

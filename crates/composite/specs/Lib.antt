@@ -1,0 +1,11 @@
+pub mod Merge
+pub mod Meeting
+pub mod Joined
+pub mod Joining
+pub mod Walk
+pub mod Answers
+pub mod Theorems
+pub mod Pieces
+pub mod Computed
+pub mod Starred
+pub mod Examples

@@ -1,0 +1,99 @@
+// The obstacles 9, 10 and 11 between two passing parts, in order (specs/Joining.antt).
+ghost use mathlib.Core.Path.{_≡_};
+ghost use Prim.Native.Nat.{_<_, _≤_};
+ghost use lib.ListN.{length};
+ghost use Rattle.part.specs.Limits.{max-event-kind};
+ghost use Rattle.part.specs.Record.{events, identifier};
+ghost use Rattle.part.specs.Rejections.{Accepted};
+ghost use Rattle.part.specs.Machine.{kind-of, event-of};
+ghost use Rattle.composite.specs.Meeting.{meets, clashes};
+ghost use Rattle.composite.specs.Joined.{joined};
+ghost use Rattle.composite.specs.Joining.{first-clash, too-large, obstacle};
+ghost use Rattle.composite.specs.Answers.{stops};
+ghost use Rattle.composite.specs.Walk.{meeting};
+use crate::answer::Fit;
+use crate::answer::Obstacle;
+use crate::merge::merge;
+use part::Part;
+
+// What a shared event becomes, by its kinds in the two parts: an internal event, or none.
+const INTERNAL: usize = 2;
+
+const CLASH: usize = 3;
+
+const MEETING: [[usize; 3]; 3] = [
+    [CLASH, INTERNAL, CLASH],
+    [INTERNAL, CLASH, CLASH],
+    [CLASH, CLASH, CLASH],
+];
+
+fn meeting(i: usize, j: usize) -> usize
+    requires { ⌜ i ≤ max-event-kind ⌝ }
+    requires { ⌜ j ≤ max-event-kind ⌝ }
+    ensures { λ r. ⌜ r ≡ meeting (kind-of i) (kind-of j) ⌝ }
+{
+    MEETING[i][j]
+}
+
+// The event at place i of a is shared, and clashes.
+fn clash_at(a: &[u8], b: &[u8], i: usize) -> bool
+    requires { ⌜ Accepted (now a) ⌝ }
+    requires { ⌜ Accepted (now b) ⌝ }
+    requires { ⌜ i < events (now a) ⌝ }
+    ensures { λ r. ⌜ r ≡ clashes (event-of (now (a .entry)) (identifier (now (a .entry)) i)) (event-of (now (b .entry)) (identifier (now (a .entry)) i)) ⌝ }
+{
+    let j = Part::place(b, Part::identifier(a, i));
+    if Part::events(b) <= j {
+        return false;
+    }
+    if meeting(Part::event_kind(a, i), Part::event_kind(b, j)) == CLASH {
+        return true;
+    }
+    Part::level(a, i) != Part::level(b, j)
+}
+
+fn first_clash(a: &[u8], b: &[u8]) -> Fit
+    requires { ⌜ Accepted (now a) ⌝ }
+    requires { ⌜ Accepted (now b) ⌝ }
+    ensures { λ r. ⌜ stops r ≡ first-clash (now (a .entry)) (now (b .entry)) ⌝ }
+{
+    let m = Part::events(a);
+    let mut i = 0;
+    while i < m {
+        if clash_at(a, b, i) {
+            return Fit::Stopped(Obstacle::Clash(Part::identifier(a, i)));
+        }
+        i += 1;
+    }
+    Fit::Joins
+}
+
+fn too_large<'a>(a: &'a [u8], b: &'a [u8]) -> bool
+    requires { ⌜ Accepted (now a) ⌝ }
+    requires { ⌜ Accepted (now b) ⌝ }
+    ensures { λ r. ⌜ r ≡ too-large (now (a .entry)) (now (b .entry)) ⌝ }
+{
+    if Part::STATES < Part::states(a) * Part::states(b) {
+        return true;
+    }
+    Part::EVENTS < merge(a, b).count
+}
+
+pub fn obstacle<'a>(a: &'a [u8], b: &'a [u8]) -> Fit
+    requires { ⌜ Accepted (now a) ⌝ }
+    requires { ⌜ Accepted (now b) ⌝ }
+    ensures { λ r. ⌜ stops r ≡ obstacle (now (a .entry)) (now (b .entry)) ⌝ }
+{
+    if Part::observer(a) != Part::observer(b) {
+        return Fit::Stopped(Obstacle::ObserversDiffer);
+    }
+    let clash = first_clash(a, b);
+    match clash {
+        Fit::Stopped(o) => return Fit::Stopped(o),
+        Fit::Joins => {}
+    }
+    if too_large(a, b) {
+        return Fit::Stopped(Obstacle::TooLarge);
+    }
+    Fit::Joins
+}
