@@ -6,8 +6,4 @@ pub mod JoinedProper
 pub mod JoinedMachine
 pub mod Walking
 pub mod Obstacles
-pub mod Rowing
-pub mod Entering
-pub mod Writing
-pub mod Answering
 pub mod Theorems

@@ -5,7 +5,6 @@ pub mod Joining
 pub mod Walk
 pub mod Answers
 pub mod Theorems
-pub mod Pieces
 pub mod Computed
 pub mod Starred
 pub mod Examples

@@ -1,8 +1,4 @@
-// Join: the merged entries, the obstacles to a hookup, the record writer, and the call.
+// The hookup of two parts: the merged entries of their records, and the obstacles to a joined record.
 pub mod answer;
-pub mod call;
-mod entries;
-mod merge;
-mod obstacle;
-mod rows;
-mod writer;
+pub mod merge;
+pub mod obstacle;

@@ -1,19 +1,72 @@
 // The C interface, declared in include/hookup.h: exports, and nothing else that a host sees.
 ghost use mathlib.Core.Path.{_≡_};
-ghost use Rattle.restrictive.specs.Verdict.{verdict};
-ghost use Rattle.hookup.specs.Numbers.{check-number};
+ghost use Prim.Native.Nat.{_≤_};
+ghost use lib.ListN.{length};
+ghost use Rattle.restrictive.specs.Verdict.{Violation, breaks, verdict};
+ghost use Rattle.restrictive.specs.Answers.{means};
+ghost use Rattle.composite.specs.Joined.{joined};
+ghost use Rattle.composite.specs.Joining.{joining, buffer-after};
+ghost use Rattle.composite.specs.Answers.{side-of, obstacle-of};
+ghost use Rattle.hookup.specs.Numbers.{check-number, side-number, obstacle-number, join-number};
+use composite::answer::Joining;
+use composite::answer::Obstacle;
+use composite::answer::Side;
+use join::call::join;
 use restrictive::Verdict;
 use restrictive::call::check;
+
+// The number of a verdict. There are five rules.
+fn check_number(v: Verdict) -> u32
+    requires { ⌜ ((w : Violation) → means v ≡ breaks w → w .rule ≤ 5) ⌝ }
+    ensures { λ k. ⌜ k ≡ check-number (means v) ⌝ }
+    ensures { λ k. ⌜ k ≤ 105 ⌝ }
+{
+    match v {
+        Verdict::Pass => 0,
+        Verdict::Refused(r) => r.number(),
+        Verdict::Break(w) => 100 + w.rule as u32,
+    }
+}
+
+fn side_number(side: Side) -> u32
+    ensures { λ k. ⌜ k ≡ side-number (side-of side) ⌝ }
+    ensures { λ k. ⌜ k ≤ 1000 ⌝ }
+{
+    match side {
+        Side::First => 0,
+        Side::Second => 1000,
+    }
+}
+
+fn obstacle_number(o: Obstacle) -> u32
+    ensures { λ k. ⌜ k ≡ obstacle-number (obstacle-of o) ⌝ }
+{
+    match o {
+        Obstacle::ObserversDiffer => 9,
+        Obstacle::Clash(_) => 10,
+        Obstacle::TooLarge => 11,
+    }
+}
 
 // 0 for a pass, the refusal's number, or 100 plus the rule for a break.
 #[no_mangle]
 pub extern "C" fn hookup_check(bytes: &[u8]) -> u32
     ensures { λ k. ⌜ k ≡ check-number (verdict (now (bytes .entry))) ⌝ }
 {
-    let found = check(bytes);
-    match found {
-        Verdict::Pass => 0,
-        Verdict::Refused(r) => r.number(),
-        Verdict::Break(v) => 100 + v.rule as u32,
+    check_number(check(bytes))
+}
+
+// 0 for a joined record, the refusal's number, or 100 plus the rule for a break; 1,000 more where B's own record is refused or breaks.
+#[no_mangle]
+pub extern "C" fn hookup_join<'a>(a: &'a [u8], b: &'a [u8], out: &mut [u8]) -> u32
+    ensures { λ k. ⌜ k ≡ join-number (joining (now (a .entry)) (now (b .entry)) (length (now (out .entry)))) ⌝ }
+    ensures { λ k. ⌜ now (out .exit) ≡ buffer-after (joining (now (a .entry)) (now (b .entry)) (length (now (out .entry)))) (joined (now (a .entry)) (now (b .entry))) (now (out .entry)) ⌝ }
+{
+    let answer = join(a, b, out);
+    match answer {
+        Joining::Joined(_) => 0,
+        Joining::Unfit(side, v) => side_number(side) + check_number(v),
+        Joining::Stopped(o) => obstacle_number(o),
+        Joining::NoRoom => 15,
     }
 }

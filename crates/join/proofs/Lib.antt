@@ -1,0 +1,4 @@
+pub mod Rowing
+pub mod Entering
+pub mod Writing
+pub mod Answering

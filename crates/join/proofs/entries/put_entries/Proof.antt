@@ -1,0 +1,74 @@
+use Prim.Native.Nat.{_-_, _≤_}
+use mathlib.Core.Path.{_≡_, ap, _∙_}
+use native.Mathlib.Omega.{arith}
+use lib.ListN.{length}
+use Rattle.words.specs.Laid.{over}
+use Rattle.words.proofs.Laying.{length-over}
+use Rattle.join.proofs.Entering.{lists-few, first-entries, entries-none, entries-next, entries-all}
+use Rattle.join.proofs.entries.put_entries.Statement.{statement}
+use Rattle.join.proofs.entries.put_entries.Tie as tie
+
+-- The first i entries are laid.
+abbrev Inv-loop : tie.InvT-loop
+Inv-loop out₀ at a b list count i₀ out i = (i ≤ count) × (out ≡ over out₀ at (first-entries a b i))
+
+abbrev μ-loop : tie.MeasureT-loop
+μ-loop out₀ at a b list count i₀ out i = count - i
+
+loop-holds : tie.Need-loop-holds Inv-loop μ-loop
+loop-holds c = (omega arith, entries-none _ _ _ _)
+
+mul-put-entry : tie.Need-mul-put-entry Inv-loop μ-loop
+mul-put-entry c = let p = c .before .before .before .before .before .before .pre in omega (arith, lists-few _ _ _ _ (p .0) (p .1 .0))
+
+add-put-entry : tie.Need-add-put-entry Inv-loop μ-loop
+add-put-entry c = omega arith
+
+mul-put-entry-2 : tie.Need-mul-put-entry-2 Inv-loop μ-loop
+mul-put-entry-2 c = let p = c .before .before .before .before .before .before .pre in omega (arith, lists-few _ _ _ _ (p .0) (p .1 .0))
+
+element-copy-out-put-entry : tie.Need-element-copy-out-put-entry Inv-loop μ-loop
+element-copy-out-put-entry c = let p = c .before .before .before .before .before .before .pre in omega (arith, lists-few _ _ _ _ (p .0) (p .1 .0))
+
+put-entry-requires : tie.Need-put-entry-requires Inv-loop μ-loop
+put-entry-requires c κs =
+    let l = c .before .before .before .loop in
+    (c .before .before .before .before .before .before .before .pre .0, omega (arith, ap length (l .inv .1) ∙ length-over _ _ _))
+
+add-i : tie.Need-add-i Inv-loop μ-loop
+add-i c = omega arith
+
+loop-less : tie.Need-loop-less Inv-loop μ-loop
+loop-less c = omega arith
+
+loop-again : tie.Need-loop-again Inv-loop μ-loop
+loop-again c =
+    let l = c .before .before .before .before .before .before .loop in
+    let p = c .before .before .before .before .before .before .before .before .before .before .pre in
+    (omega arith, entries-next _ _ _ _ _ _ (l .i) (p .1 .0) (omega arith) (l .inv .1) (c .before .before .put-entry .ensures))
+
+same-length : tie.Need-same-length Inv-loop μ-loop
+same-length c = ap length (c .before .loop .inv .1) ∙ length-over _ _ _
+
+returns : tie.Need-returns Inv-loop μ-loop
+returns c =
+    let l = c .before .loop in
+    l .inv .1 ∙ entries-all _ _ _ _ _ _ (l .i) (c .before .before .before .before .before .pre .1 .0) (omega arith)
+
+pub put-entries-spec : {M : Type 1} → statement M
+put-entries-spec =
+    tie.close
+    (tie.spec
+    Inv-loop
+    μ-loop
+    loop-holds
+    mul-put-entry
+    add-put-entry
+    mul-put-entry-2
+    element-copy-out-put-entry
+    put-entry-requires
+    add-i
+    loop-less
+    loop-again
+    same-length
+    returns)

@@ -1,0 +1,44 @@
+// Join (document 01, "The shelf").
+ghost use mathlib.Core.Path.{_≡_};
+ghost use lib.ListN.{length};
+ghost use Rattle.composite.specs.Joined.{joined};
+ghost use Rattle.composite.specs.Joining.{joining, buffer-after};
+ghost use Rattle.composite.specs.Answers.{means};
+use crate::writer::joined_length;
+use crate::writer::write;
+use composite::answer::Fit;
+use composite::answer::Joining;
+use composite::answer::Side;
+use composite::obstacle::obstacle;
+use restrictive::Verdict;
+use restrictive::call::check;
+
+// The joined record of a and b at the start of out, whose later bytes stay; or why there is none, and then out stays as it was.
+pub fn join<'a>(a: &'a [u8], b: &'a [u8], out: &mut [u8]) -> Joining
+    ensures { λ r. ⌜ means r ≡ joining (now (a .entry)) (now (b .entry)) (length (now (out .entry))) ⌝ }
+    ensures { λ r. ⌜ now (out .exit) ≡ buffer-after (means r) (joined (now (a .entry)) (now (b .entry))) (now (out .entry)) ⌝ }
+{
+    let first = check(a);
+    match first {
+        Verdict::Refused(r) => return Joining::Unfit(Side::First, Verdict::Refused(r)),
+        Verdict::Break(v) => return Joining::Unfit(Side::First, Verdict::Break(v)),
+        Verdict::Pass => {}
+    }
+    let second = check(b);
+    match second {
+        Verdict::Refused(r) => return Joining::Unfit(Side::Second, Verdict::Refused(r)),
+        Verdict::Break(v) => return Joining::Unfit(Side::Second, Verdict::Break(v)),
+        Verdict::Pass => {}
+    }
+    let fit = obstacle(a, b);
+    match fit {
+        Fit::Stopped(o) => return Joining::Stopped(o),
+        Fit::Joins => {}
+    }
+    let size = joined_length(a, b);
+    if out.len() < size {
+        return Joining::NoRoom;
+    }
+    write(out, a, b);
+    Joining::Joined(size)
+}
