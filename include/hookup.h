@@ -20,6 +20,23 @@ extern "C" {
  * resolves memcpy. */
 uint32_t hookup_check(const uint8_t *record, size_t len);
 
+/* Joins the parts of two records, a and b, and writes the joined record to the start of out.
+ *
+ * Answers 0 if it did; how long the record is, its first four bytes say: that number, little-endian, and six more. Otherwise
+ * nothing is written, and the answer is the first of these that applies:
+ *   1 to 8, or 101 to 105      a is refused or breaks a rule, as hookup_check says
+ *   1001 to 1008, 1101 to 1105 b is refused or breaks a rule
+ *   9                          the observers differ
+ *   10                         a shared event clashes in kind or level
+ *   11                         more than 64 states or more than 32 merged entries
+ *   15                         out is too short (16,586 bytes are always enough)
+ * The bytes of out behind the record stay as they were.
+ *
+ * out may not overlap a record; a and b may be the same bytes. A pointer may be null only where its length is 0. The call reads and
+ * writes nothing else, keeps nothing, takes no lock, and may be made by several threads at once. It needs less than
+ * 12 KB of stack: 7,480 bytes were measured on full records, 10,680 on a first call. */
+uint32_t hookup_join(const uint8_t *a, size_t alen, const uint8_t *b, size_t blen, uint8_t *out, size_t outlen);
+
 #ifdef __cplusplus
 }
 #endif

@@ -1,5 +1,4 @@
 -- What the answers of the code mean: document 01's numbers and values for each case.
-use Prim.Native.Nat.{ℕ}
 use mathlib.Core.Option.{Option, none, some}
 use Rattle.restrictive.specs.Answers as record-answers
 use Rattle.composite.specs.declared.answer.Obstacle.{Obstacle}

@@ -3,7 +3,6 @@ use Prim.Native.Nat.{ℕ}
 use mathlib.Core.Bool.{Bool, true, false, _&&_}
 use mathlib.Core.List.{List, [], _∷_}
 use lib.Dec.{eqb}
-use lib.ListN.{length}
 use Rattle.bounded.specs.Search.{first, or-else}
 use Rattle.words.specs.Sets.{bit, single, mask}
 use Rattle.words.specs.Pairs.{pair, product}
@@ -11,7 +10,6 @@ use Rattle.words.specs.LittleEndian.{number, digits, each}
 use Rattle.part.specs.Record.{observer, states, start, events, class, classes-below, entry-at, identifier, event-kind, level, row-at, row}
 use Rattle.part.specs.Layout.{body, size, layout}
 use Rattle.part.specs.Machine.{kind-of, at-place, place, event-of}
-use Rattle.restrictive.specs.Verdict as plain
 use Rattle.restrictive.specs.Judged.{judged, same}
 use Rattle.composite.specs.Merge.{beside, merge}
 use Rattle.composite.specs.Meeting.{meets, clashes, combined, kind-byte, level-byte}

@@ -6,11 +6,12 @@ use mathlib.Core.List.{List, [], _∷_, _++_}
 use lib.Dec.{T}
 use lib.ListN.{length, set, take}
 use Rattle.words.specs.LittleEndian.{digits}
+use Rattle.words.specs.Laid.{over}
 use Rattle.part.specs.Layout.{layout}
 use Rattle.part.specs.Samples.{P, Q, Z}
 use Rattle.restrictive.specs.Verdict.{refused}
 use Rattle.restrictive.specs.Judged.{broken-at}
-use Rattle.composite.specs.Joining.{refusal, clash, first-record, second-record, Joining, length-is, unfit, stopped}
+use Rattle.composite.specs.Joining.{refusal, clash, first-record, second-record, Joining, length-is, unfit, stopped, buffer-after}
 use Rattle.composite.specs.Computed.{hooked, answered, same-bytes, same-answer}
 
 -- An entry of a low event, and a record for observer 0 from its start, classes, entries and rows.
@@ -113,3 +114,15 @@ table =
 answers-as-written : T (all-answered table)
 unfolding all-answered
 answers-as-written = tt
+
+-- What the buffer holds after a record of two bytes, and after a refused call.
+buffers-so : Bool
+unfolding buffer-after over
+buffers-so =
+    same-bytes (buffer-after (length-is 2) (1 ∷ 2 ∷ []) (7 ∷ 8 ∷ 9 ∷ [])) (1 ∷ 2 ∷ 9 ∷ [])
+    && same-bytes (buffer-after (stopped (refusal 15)) (1 ∷ 2 ∷ []) (7 ∷ 8 ∷ 9 ∷ [])) (7 ∷ 8 ∷ 9 ∷ [])
+    && same-bytes (buffer-after (unfit second-record (refused 1)) (1 ∷ 2 ∷ []) (7 ∷ 8 ∷ 9 ∷ [])) (7 ∷ 8 ∷ 9 ∷ [])
+
+buffers-as-written : T buffers-so
+unfolding buffers-so
+buffers-as-written = tt

@@ -1,13 +1,11 @@
 // The obstacles 9, 10 and 11 between two passing parts, in order (specs/Joining.antt).
 ghost use mathlib.Core.Path.{_≡_};
 ghost use Prim.Native.Nat.{_<_, _≤_};
-ghost use lib.ListN.{length};
 ghost use Rattle.part.specs.Limits.{max-event-kind};
 ghost use Rattle.part.specs.Record.{events, identifier};
 ghost use Rattle.part.specs.Rejections.{Accepted};
 ghost use Rattle.part.specs.Machine.{kind-of, event-of};
-ghost use Rattle.composite.specs.Meeting.{meets, clashes};
-ghost use Rattle.composite.specs.Joined.{joined};
+ghost use Rattle.composite.specs.Meeting.{clashes};
 ghost use Rattle.composite.specs.Joining.{first-clash, too-large, obstacle};
 ghost use Rattle.composite.specs.Answers.{stops};
 ghost use Rattle.composite.specs.Walk.{meeting};

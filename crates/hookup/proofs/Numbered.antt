@@ -1,6 +1,6 @@
 -- The numbers of answers: how large they get, and that they are the answer's. Assumes nothing.
 use Prim.Native.Nat.{ℕ, _≤_}
-use mathlib.Core.Path.{_≡_, sym, ap, _∙_}
+use mathlib.Core.Path.{_≡_, ap, _∙_}
 use mathlib.Core.List.{List}
 use native.Mathlib.Omega.{arith}
 use Rattle.part.specs.declared.answer.Rejection.{Rejection}

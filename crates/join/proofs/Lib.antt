@@ -1,3 +1,4 @@
+pub mod Turning
 pub mod Rowing
 pub mod Entering
 pub mod Writing

@@ -1,4 +1,4 @@
-use mathlib.Core.Path.{refl, sym, ap, _∙_}
+use mathlib.Core.Path.{sym, ap, _∙_}
 use native.Mathlib.Omega.{arith}
 use Rattle.restrictive.specs.declared.answer.Verdict.{Verdict}
 use Rattle.restrictive.specs.Answers.{named, means}

@@ -1,4 +1,3 @@
-use mathlib.Core.Path.{sym, ap, _∙_}
 use native.Mathlib.Omega.{arith}
 use Rattle.part.proofs.Ranges.{frame}
 use Rattle.composite.proofs.Obstacles.{many-states, many-events, states-product}

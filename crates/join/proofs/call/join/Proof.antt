@@ -3,7 +3,7 @@ use native.Mathlib.Omega.{arith}
 use borrow.Author.Needs.{needs}
 use Rattle.restrictive.specs.Answers as record-answers
 use Rattle.composite.specs.Joining.{length-is, buffer-after}
-use Rattle.composite.specs.Answers.{means, stops, side-of, obstacle-of}
+use Rattle.composite.specs.Answers.{means, stops, side-of}
 use Rattle.join.proofs.Answering.{refuses, breaking, passing-accepted, joint, first-unfit, second-unfit, obstructed, roomless, roomy}
 use Rattle.join.proofs.call.join.Statement.{statement}
 use Rattle.join.proofs.call.join.Tie as tie

@@ -4,7 +4,8 @@ use native.Mathlib.Omega.{arith}
 use lib.ListN.{length}
 use Rattle.words.specs.Laid.{over}
 use Rattle.words.proofs.Laying.{length-over}
-use Rattle.join.proofs.Entering.{lists-few, first-entries, entries-none, entries-next, entries-all}
+use Rattle.join.proofs.Turning.{nothing-laid, lists-few}
+use Rattle.join.proofs.Entering.{first-entries, entries-next, entries-all}
 use Rattle.join.proofs.entries.put_entries.Statement.{statement}
 use Rattle.join.proofs.entries.put_entries.Tie as tie
 
@@ -16,7 +17,7 @@ abbrev μ-loop : tie.MeasureT-loop
 μ-loop out₀ at a b list count i₀ out i = count - i
 
 loop-holds : tie.Need-loop-holds Inv-loop μ-loop
-loop-holds c = (omega arith, entries-none _ _ _ _)
+loop-holds c = (omega arith, nothing-laid _ _ _)
 
 mul-put-entry : tie.Need-mul-put-entry Inv-loop μ-loop
 mul-put-entry c = let p = c .before .before .before .before .before .before .pre in omega (arith, lists-few _ _ _ _ (p .0) (p .1 .0))
