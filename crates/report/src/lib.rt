@@ -11,6 +11,7 @@ ghost use Rattle.report.specs.Line.{line};
 use part::Rejection;
 use restrictive::Verdict;
 use restrictive::Violation;
+use words::copy::lay;
 
 // How long a line can be: five numbers have 20 digits each at most, and the words around them 30 bytes.
 pub const LINE: usize = 160;
@@ -20,7 +21,7 @@ fn refusal(r: Rejection, out: &mut [u8; LINE]) -> usize
     ensures { λ n. ⌜ now (out .exit) ≡ line (refused (number-of r)) ++ drop n (now (out .entry)) ⌝ }
 {
     let at = text::labelled(b"refused ", r.number() as usize, out, 0);
-    text::word(b"\n", out, at)
+    lay(b"\n", out, at)
 }
 
 fn violation(v: Violation, out: &mut [u8; LINE]) -> usize
@@ -32,7 +33,7 @@ fn violation(v: Violation, out: &mut [u8; LINE]) -> usize
     let to = text::labelled(b" from ", v.s, out, from);
     let other = text::labelled(b" to ", v.t, out, to);
     let end = text::labelled(b" other ", v.u, out, other);
-    text::word(b"\n", out, end)
+    lay(b"\n", out, end)
 }
 
 // Writes the verdict's line to the start of out, and answers its length. The rest of out stays.
@@ -41,7 +42,7 @@ pub fn line(v: Verdict, out: &mut [u8; LINE]) -> usize
     ensures { λ r. ⌜ now (out .exit) ≡ line (means v) ++ drop r (now (out .entry)) ⌝ }
 {
     match v {
-        Verdict::Pass => text::word(b"pass\n", out, 0),
+        Verdict::Pass => lay(b"pass\n", out, 0),
         Verdict::Refused(r) => refusal(r, out),
         Verdict::Break(b) => violation(b, out),
     }

@@ -5,6 +5,7 @@ ghost use mathlib.Core.List.{_++_};
 ghost use lib.ListN.{length};
 ghost use Rattle.report.specs.Line.{last-digit, decimal};
 ghost use Rattle.words.specs.Laid.{Laid};
+use words::copy::lay;
 
 fn last_digit(n: usize) -> u8
     ensures { λ r. ⌜ r ≡ last-digit n ⌝ }
@@ -44,24 +45,12 @@ fn number(n: usize, out: &mut [u8], at: usize) -> usize
     end
 }
 
-pub fn word(bytes: &[u8], out: &mut [u8], at: usize) -> usize
-    requires { ⌜ at + length (now bytes) ≤ length (now out) ⌝ }
-    ensures { λ r. ⌜ Laid (now (out .entry)) at (now (bytes .entry)) (now (out .exit)) r ⌝ }
-{
-    let mut i = 0;
-    while i < bytes.len() {
-        out[at + i] = bytes[i];
-        i += 1;
-    }
-    at + bytes.len()
-}
-
 // The word, and then n in decimal.
 pub fn labelled(bytes: &[u8], n: usize, out: &mut [u8], at: usize) -> usize
     requires { ⌜ at + length (now bytes) + 20 ≤ length (now out) ⌝ }
     ensures { λ r. ⌜ Laid (now (out .entry)) at (now (bytes .entry) ++ decimal n) (now (out .exit)) r ⌝ }
     ensures { λ r. ⌜ r ≤ at + length (now (bytes .entry)) + 20 ⌝ }
 {
-    let next = word(bytes, out, at);
+    let next = lay(bytes, out, at);
     number(n, out, next)
 }

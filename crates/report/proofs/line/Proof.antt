@@ -9,11 +9,11 @@ use Rattle.report.proofs.line.Tie as tie
 enum-told : tie.Need-enum-told
 enum-told c = search needs
 
-slice-aggregate-word : tie.Need-slice-aggregate-word
-slice-aggregate-word c = search needs
+slice-aggregate-lay : tie.Need-slice-aggregate-lay
+slice-aggregate-lay c = search needs
 
-word-requires : tie.Need-word-requires
-word-requires c κs = search needs
+lay-requires : tie.Need-lay-requires
+lay-requires c κs = search needs
 
 enum-known-v : tie.Need-enum-known-v
 enum-known-v c = search needs
@@ -29,7 +29,7 @@ violation-requires c κs = search needs
 
 returns : tie.Need-returns
 unfolding line means
-returns c = rw (c .before .before .before .enum-told .given .1) (laid-start (c .word .ensures) (omega arith))
+returns c = rw (c .before .before .before .enum-told .given .1) (laid-start (c .lay .ensures) (omega arith))
 
 returns-2 : tie.Need-returns-2
 unfolding means
@@ -44,8 +44,8 @@ line-spec =
     tie.close
     (tie.spec
     enum-told
-    slice-aggregate-word
-    word-requires
+    slice-aggregate-lay
+    lay-requires
     enum-known-v
     refusal-requires
     enum-known-v-2

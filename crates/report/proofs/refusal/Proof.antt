@@ -17,17 +17,17 @@ cast-labelled c = search needs
 labelled-requires : tie.Need-labelled-requires
 labelled-requires c κs = search needs
 
-slice-aggregate-word : tie.Need-slice-aggregate-word
-slice-aggregate-word c = search needs
+slice-aggregate-lay : tie.Need-slice-aggregate-lay
+slice-aggregate-lay c = search needs
 
-word-requires : tie.Need-word-requires
-word-requires c κs = search needs
+lay-requires : tie.Need-lay-requires
+lay-requires c κs = search needs
 
 returns : tie.Need-returns
 returns c =
     let end = c .before .before .before in
     let number = end .before .before .number .ensures in
-    laid-start (laid-refusal _ (rw number at (end .labelled .ensures .0)) (c .word .ensures)) (omega arith)
+    laid-start (laid-refusal _ (rw number at (end .labelled .ensures .0)) (c .lay .ensures)) (omega arith)
 
 pub refusal-spec : {M : Type 1} → statement M
 refusal-spec =
@@ -37,6 +37,6 @@ refusal-spec =
     number-requires
     cast-labelled
     labelled-requires
-    slice-aggregate-word
-    word-requires
+    slice-aggregate-lay
+    lay-requires
     returns)

@@ -36,11 +36,11 @@ slice-aggregate-labelled-5 c = search needs
 labelled-requires-5 : tie.Need-labelled-requires-5
 labelled-requires-5 c κs = search needs
 
-slice-aggregate-word : tie.Need-slice-aggregate-word
-slice-aggregate-word c = search needs
+slice-aggregate-lay : tie.Need-slice-aggregate-lay
+slice-aggregate-lay c = search needs
 
-word-requires : tie.Need-word-requires
-word-requires c κs = search needs
+lay-requires : tie.Need-lay-requires
+lay-requires c κs = search needs
 
 returns : tie.Need-returns
 unfolding named
@@ -58,7 +58,7 @@ returns c =
     (from .labelled3 .ensures .0)
     (to .labelled4 .ensures .0)
     (other .labelled5 .ensures .0)
-    (c .word .ensures))
+    (c .lay .ensures))
     (omega arith)
 
 pub violation-spec : {M : Type 1} → statement M
@@ -75,6 +75,6 @@ violation-spec =
     labelled-requires-4
     slice-aggregate-labelled-5
     labelled-requires-5
-    slice-aggregate-word
-    word-requires
+    slice-aggregate-lay
+    lay-requires
     returns)

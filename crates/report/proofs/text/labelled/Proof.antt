@@ -4,8 +4,8 @@ use borrow.Author.Needs.{needs}
 use Rattle.report.proofs.text.labelled.Statement.{statement}
 use Rattle.report.proofs.text.labelled.Tie as tie
 
-word-requires : tie.Need-word-requires
-word-requires c κs = search needs
+lay-requires : tie.Need-lay-requires
+lay-requires c κs = search needs
 
 number-requires : tie.Need-number-requires
 number-requires c κs = search needs
@@ -14,7 +14,7 @@ same-length : tie.Need-same-length
 same-length c = search needs
 
 returns : tie.Need-returns
-returns c = (then (c .before .before .before .before .before .before .word .ensures) (c .before .before .number .ensures .0), omega arith)
+returns c = (then (c .before .before .before .before .before .before .lay .ensures) (c .before .before .number .ensures .0), omega arith)
 
 pub labelled-spec : {M : Type 1} → statement M
-labelled-spec = tie.close (tie.spec word-requires number-requires same-length returns)
+labelled-spec = tie.close (tie.spec lay-requires number-requires same-length returns)

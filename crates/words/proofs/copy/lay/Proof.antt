@@ -3,10 +3,10 @@ use mathlib.Core.Path.{_≡_, refl, sym, _∙_}
 use native.Mathlib.Nat.{add-zero}
 use native.Mathlib.Omega.{arith}
 use lib.ListN.{length, drop, length-set}
 use Rattle.words.specs.Laid.{over}
 use Rattle.words.proofs.Laying.{word-turn, word-end}
-use Rattle.report.proofs.text.word.Statement.{statement}
-use Rattle.report.proofs.text.word.Tie as tie
+use Rattle.words.proofs.copy.lay.Statement.{statement}
+use Rattle.words.proofs.copy.lay.Tie as tie
 
 -- Laying the bytes that are left gives what laying them all at the start does.
 abbrev Inv-loop : tie.InvT-loop
@@ -54,8 +54,8 @@ returns c =
     let a = c .before .before .args in
     record { text = sym (word-end (l .out) (a .bytes .now) (a .at) (l .i) (omega arith)) ∙ l .inv .2; behind = refl }
 
-pub word-spec : {M : Type 1} → statement M
-word-spec =
+pub lay-spec : {M : Type 1} → statement M
+lay-spec =
     tie.close
     (tie.spec
     Inv-loop
