@@ -1,0 +1,10 @@
+-- The answers of the calls on a shelf, with document 01's numbers and values.
+use Prim.Native.Nat.{ℕ}
+use Rattle.restrictive.specs.Verdict.{Violation}
+
+-- A number: 0 of Clear, a part's number, a count; a refusal by its number; refusal 10 with its identifier; a break.
+pub data Answer : Type 0 where
+  gives : ℕ → Answer
+  refused : ℕ → Answer
+  clash : ℕ → Answer
+  breaks : Violation → Answer

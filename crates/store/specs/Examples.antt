@@ -1,0 +1,73 @@
+-- Shelves on which the calls and the model are computed: document 01's 17 and 16 bytes, and shelves that have no end record.
+use Prim.Native.Nat.{ℕ}
+use mathlib.Core.Bool.{Bool, true, false, _&&_}
+use mathlib.Core.List.{List, [], _∷_, flatten}
+use lib.Dec.{T, eqb}
+use lib.ListN.{replicate, take}
+use Rattle.words.specs.Laid.{over}
+use Rattle.words.specs.LittleEndian.{number}
+use Rattle.part.specs.Record.{body-length, kind}
+use Rattle.part.specs.Samples.{P, Q, Z}
+use Rattle.restrictive.specs.Judged.{judged}
+use Rattle.composite.specs.Computed.{hooked, answered}
+use Rattle.store.specs.Answer.{Answer, gives, refused, clash, breaks}
+use Rattle.store.specs.Walk.{front, walk-at-most, walk, records}
+use Rattle.store.specs.Calls as shelf
+use Rattle.store.specs.Calls.{end-bytes, append, append-joined, hookup-of, passes, obstacle-answer}
+use Rattle.store.specs.Model as model
+use Rattle.store.specs.Model.{Call, clear, load, hookup, answers}
+use Rattle.store.specs.Demand.{step, shelf-answers}
+
+abbrev same-answer : Answer → Answer → Bool
+same-answer (gives m) (gives n) = eqb m n
+same-answer (gives m) (refused k) = false
+same-answer (gives m) (clash e) = false
+same-answer (gives m) (breaks v) = false
+same-answer (refused j) (gives n) = false
+same-answer (refused j) (refused k) = eqb j k
+same-answer (refused j) (clash e) = false
+same-answer (refused j) (breaks v) = false
+same-answer (clash d) (gives n) = false
+same-answer (clash d) (refused k) = false
+same-answer (clash d) (clash e) = eqb d e
+same-answer (clash d) (breaks v) = false
+same-answer (breaks w) a = false
+
+abbrev same-answers : List Answer → List Answer → Bool
+same-answers [] [] = true
+same-answers [] (y ∷ ys) = false
+same-answers (x ∷ xs) [] = false
+same-answers (x ∷ xs) (y ∷ ys) = same-answer x y && same-answers xs ys
+
+-- The calls on a shelf of so many bytes 0xAA.
+unfoldable run : ℕ → List Call → List Answer
+unfolding judged hooked answered shelf-answers step shelf.clear shelf.load shelf.hookup hookup-of append-joined append passes obstacle-answer walk walk-at-most front records end-bytes flatten over body-length kind number
+run n calls = shelf-answers calls (replicate n 0xAA)
+
+unfoldable plainly : ℕ → List Call → List Answer
+unfolding judged hooked answered answers model.step model.load-record model.hookup-records model.append obstacle-answer flatten
+plainly n calls = answers n calls []
+
+abbrev calls : List Call
+calls = clear ∷ load P ∷ load Q ∷ hookup 0 1 ∷ hookup 0 0 ∷ hookup 2 7 ∷ load (take 5 P) ∷ clear ∷ hookup 0 0 ∷ []
+
+abbrev expected : List Answer
+expected = gives 0 ∷ gives 0 ∷ gives 1 ∷ gives 2 ∷ clash 1 ∷ refused 13 ∷ refused 1 ∷ gives 0 ∷ refused 13 ∷ []
+
+all-so : Bool
+unfolding run plainly
+all-so =
+    -- Z on 17 bytes and on 16; a shelf of five bytes; one that was never cleared
+    same-answers (run 17 (clear ∷ load Z ∷ [])) (gives 0 ∷ gives 0 ∷ [])
+    && same-answers (run 16 (clear ∷ load Z ∷ [])) (gives 0 ∷ refused 15 ∷ [])
+    && same-answers (run 5 (clear ∷ load Z ∷ [])) (refused 12 ∷ refused 12 ∷ [])
+    && same-answers (run 17 (load Z ∷ [])) (refused 12 ∷ [])
+    -- the shelf and the model: room for all, and one byte too few for the third record
+    && same-answers (run 133 calls) expected
+    && same-answers (plainly 133 calls) expected
+    && same-answers (run 132 (take 4 calls)) (gives 0 ∷ gives 0 ∷ gives 1 ∷ refused 15 ∷ [])
+    && same-answers (plainly 132 (take 4 calls)) (gives 0 ∷ gives 0 ∷ gives 1 ∷ refused 15 ∷ [])
+
+all-as-written : T all-so
+unfolding all-so
+all-as-written = tt
