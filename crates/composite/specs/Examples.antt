@@ -7,8 +7,7 @@ use lib.Dec.{T}
 use lib.ListN.{length, set, take}
 use Rattle.words.specs.LittleEndian.{digits}
 use Rattle.words.specs.Laid.{over}
-use Rattle.part.specs.Layout.{layout}
-use Rattle.part.specs.Samples.{P, Q, Z}
+use Rattle.part.specs.Samples.{P, Q, Z, resetting}
 use Rattle.restrictive.specs.Verdict.{refused}
 use Rattle.restrictive.specs.Judged.{broken-at}
 use Rattle.composite.specs.Joining.{refusal, clash, first-record, second-record, Joining, length-is, unfit, stopped, buffer-after}
@@ -48,20 +47,6 @@ receiver = sample 0 (0 ∷ 0 ∷ []) 1 (entry 7 0) (3 ∷ 2 ∷ [])
 
 abbrev together : List ℕ
 together = sample 0 (0 ∷ 0 ∷ 0 ∷ 0 ∷ []) 1 (entry 7 2) (12 ∷ 8 ∷ 3 ∷ 2 ∷ [])
-
--- n states of one class, with m low inputs 0, 1, .. that stay.
-abbrev staying : ℕ → ℕ → List ℕ
-staying n m = layout (record {
-  observer = 0;
-  states = n;
-  start = 0;
-  events = m;
-  class = λ s. 0;
-  identifier = λ i. i;
-  event-kind = λ i. 0;
-  level = λ i. 0;
-  row = λ i s. 1;
-})
 
 bytes-so : Bool
 unfolding hooked sample
@@ -106,9 +91,9 @@ table =
     ∷ line P (set Q 11 1) 52 (stopped (clash 1))
     ∷ line P (set Q 14 0x40) 52 (stopped (clash 2))
     -- 10 before 11: 9 x 9 states, and event 0 clashes; 11 before 15
-    ∷ line (staying 9 1) (staying 9 1) 0 (stopped (clash 0))
-    ∷ line (staying 9 0) (staying 8 0) 0 (stopped (refusal 11))
-    ∷ line (staying 8 0) (staying 8 0) 0 (stopped (refusal 15))
+    ∷ line (resetting 9 1) (resetting 9 1) 0 (stopped (clash 0))
+    ∷ line (resetting 9 0) (resetting 8 0) 0 (stopped (refusal 11))
+    ∷ line (resetting 8 0) (resetting 8 0) 0 (stopped (refusal 15))
     ∷ []
 
 answers-as-written : T (all-answered table)

@@ -10,26 +10,12 @@ use lib.ListN.{take, set}
 use Rattle.bounded.specs.Search.{first, or-else}
 use Rattle.machine.specs.Machine.{input, output, Event, absent, event}
 use Rattle.words.specs.LittleEndian.{number, digits, each}
-use Rattle.part.specs.Record.{kind, states, start, events, class, entry-at, identifier, event-kind, level, row}
+use Rattle.part.specs.Record.{kind, states, start, events, class, entry-at, identifier, event-kind, level}
 use Rattle.part.specs.Rejections.{falling}
-use Rattle.part.specs.Layout.{body, layout}
+use Rattle.part.specs.Layout.{body}
 use Rattle.part.specs.Machine.{kind-of, at-place, place, event-of}
-use Rattle.part.specs.Samples.{P, Z}
+use Rattle.part.specs.Samples.{P, Z, resetting}
 use Rattle.part.specs.Computed.{rejected-with}
-
--- A record of n states, all of one class, with m inputs 0, 1, .. of level 0 that stay where they are.
-abbrev staying : ℕ → ℕ → List ℕ
-staying n m = layout (record {
-  observer = 0;
-  states = n;
-  start = 0;
-  events = m;
-  class = λ s. 0;
-  identifier = λ i. i;
-  event-kind = λ i. 0;
-  level = λ i. 0;
-  row = λ i s. 1;
-})
 
 -- A number, and a record that is rejected with it.
 record Line : Type 0 where
@@ -61,12 +47,12 @@ table =
     ∷ (0 ∷ 0 ∷ 0 ∷ 0 ∷ 1 ∷ 0 ∷ []) is 4
     ∷ set P 7 0 is 4
     ∷ set P 7 65 is 4
-    ∷ staying 65 0 is 4
-    ∷ staying 64 0 is 0
+    ∷ resetting 65 0 is 4
+    ∷ resetting 64 0 is 0
     ∷ set P 8 2 is 4
     ∷ set P 8 1 is 0
-    ∷ staying 1 33 is 4
-    ∷ staying 1 32 is 0
+    ∷ resetting 1 33 is 4
+    ∷ resetting 1 32 is 0
     ∷ set P 7 3 is 5
     ∷ set (set P 7 3) 10 1 is 5
     -- 6: state 0 not of class 0, a class skipped; 7: equal and falling identifiers, a kind of 3; 8: a bit at n; each before the next

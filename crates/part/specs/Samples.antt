@@ -1,7 +1,8 @@
--- The records of document 01, "Examples".
+-- The records of document 01, "Examples", and records of any size.
 use Prim.Native.Nat.{ℕ}
 use mathlib.Core.List.{List, [], _∷_, _++_}
 use Rattle.words.specs.LittleEndian.{digits}
+use Rattle.part.specs.Layout.{layout}
 
 -- P, 52 bytes: two states, input 1 is high and toggles, output 2 is low and stays.
 abbrev pub P : List ℕ
@@ -34,3 +35,17 @@ T kind level row-0 row-1 row-2 =
     ++ 0x00 ∷ 0x00 ∷ 0x01 ∷ []
     ++ 0x01 ∷ 0x00 ∷ kind ∷ level ∷ []
     ++ digits 8 row-0 ++ digits 8 row-1 ++ digits 8 row-2
+
+-- n states, all of one class, and m inputs 0, 1, .. of level 0 that lead every state to state 0.
+abbrev pub resetting : ℕ → ℕ → List ℕ
+resetting n m = layout (record {
+  observer = 0;
+  states = n;
+  start = 0;
+  events = m;
+  class = λ s. 0;
+  identifier = λ i. i;
+  event-kind = λ i. 0;
+  level = λ i. 0;
+  row = λ i s. 1;
+})

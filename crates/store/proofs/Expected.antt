@@ -13,8 +13,7 @@ use Rattle.restrictive.specs.Theorems.{FirstHolding, here, later}
 use Rattle.restrictive.proofs.Theorems.{refused-exactly}
 use Rattle.composite.specs.Joining as join
 use Rattle.composite.specs.Joining.{Obstacle, refusal, when, clash-at, first-clash, obstacle}
-use Rattle.store.specs.Answer.{gives, refused, clash, breaks}
-use Rattle.store.specs.Calls.{obstacle-answer}
+use Rattle.store.specs.Answer.{gives, refused, clash, breaks, obstacle-answer}
 use Rattle.store.specs.Demand.{Foreseen}
 
 pub gives-foreseen : (n : ℕ) → Foreseen (gives n)

@@ -24,10 +24,10 @@ use Rattle.composite.specs.Joining.{Obstacle, obstacle}
 use Rattle.composite.proofs.Joinable.{joins-exactly}
 use Rattle.composite.proofs.JoinedProper.{joined-proper}
 use Rattle.composite.proofs.Theorems.{joined-passes}
-use Rattle.store.specs.Answer.{Answer, gives, refused, breaks}
+use Rattle.store.specs.Answer.{Answer, gives, refused, breaks, obstacle-answer}
 use Rattle.store.specs.Walk.{walk}
 use Rattle.store.specs.Calls as shelf
-use Rattle.store.specs.Calls.{end-bytes, Left, unchanged, passes, obstacle-answer}
+use Rattle.store.specs.Calls.{end-bytes, Left, unchanged, passes}
 use Rattle.store.specs.Model as model
 use Rattle.store.specs.Model.{Kept, kept}
 use Rattle.store.specs.Demand.{Foreseen}

@@ -9,9 +9,9 @@ use Rattle.words.specs.Laid.{over}
 use Rattle.part.specs.Limits.{header}
 use Rattle.restrictive.specs.Verdict.{pass, refused, breaks, verdict}
 use Rattle.composite.specs.Joined.{joined}
-use Rattle.composite.specs.Joining.{Obstacle, refusal, clash, obstacle}
+use Rattle.composite.specs.Joining.{obstacle}
 use Rattle.store.specs.Answer as answer
-use Rattle.store.specs.Answer.{Answer}
+use Rattle.store.specs.Answer.{Answer, obstacle-answer}
 use Rattle.store.specs.Walk.{walk}
 
 -- The end record: six zero bytes.
@@ -48,10 +48,6 @@ load s r =
 -- A record passes Check.
 unfoldable pub passes : List ℕ → Bool
 passes r = elim (verdict r) [ pass ↦ true | refused k ↦ false | breaks v ↦ false ]
-
-unfoldable pub obstacle-answer : Obstacle → Answer
-obstacle-answer (refusal k) = answer.refused k
-obstacle-answer (clash e) = answer.clash e
 
 -- 9, 10, 11, 15.
 unfoldable pub append-joined : List ℕ → List (List ℕ) → List ℕ → List ℕ → Left

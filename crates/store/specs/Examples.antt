@@ -10,10 +10,10 @@ use Rattle.part.specs.Record.{body-length, kind}
 use Rattle.part.specs.Samples.{P, Q, Z}
 use Rattle.restrictive.specs.Judged.{judged}
 use Rattle.composite.specs.Computed.{hooked, answered}
-use Rattle.store.specs.Answer.{Answer, gives, refused, clash, breaks}
+use Rattle.store.specs.Answer.{Answer, gives, refused, clash, breaks, obstacle-answer}
 use Rattle.store.specs.Walk.{front, walk-at-most, walk, records}
 use Rattle.store.specs.Calls as shelf
-use Rattle.store.specs.Calls.{end-bytes, append, append-joined, hookup-of, passes, obstacle-answer}
+use Rattle.store.specs.Calls.{end-bytes, append, append-joined, hookup-of, passes}
 use Rattle.store.specs.Model as model
 use Rattle.store.specs.Model.{Call, clear, load, hookup, answers}
 use Rattle.store.specs.Demand.{step, shelf-answers}

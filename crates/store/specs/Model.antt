@@ -9,8 +9,7 @@ use Rattle.restrictive.specs.Verdict.{pass, refused, breaks, verdict}
 use Rattle.composite.specs.Joined.{joined}
 use Rattle.composite.specs.Joining.{obstacle}
 use Rattle.store.specs.Answer as answer
-use Rattle.store.specs.Answer.{Answer}
-use Rattle.store.specs.Calls.{obstacle-answer}
+use Rattle.store.specs.Answer.{Answer, obstacle-answer}
 
 -- The calls that change a shelf.
 pub data Call : Type 0 where
