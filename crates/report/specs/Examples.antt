@@ -2,27 +2,8 @@
 use mathlib.Core.Path.{_≡_, refl}
 use mathlib.Core.List.{[], _∷_, _++_}
 use Rattle.restrictive.specs.Verdict.{pass, refused, breaks}
-use Rattle.report.specs.Line.{digits, decimal, rule-text, event-text, from-text, to-text, other-text, line-end, line}
-
--- "0"
-pub zero-is : decimal 0 ≡ 48 ∷ []
-unfolding decimal digits
-zero-is = refl
-
--- "7"
-pub seven-is : decimal 7 ≡ 55 ∷ []
-unfolding decimal digits
-seven-is = refl
-
--- "10"
-pub ten-is : decimal 10 ≡ 49 ∷ 48 ∷ []
-unfolding decimal digits
-ten-is = refl
-
--- "65535"
-pub largest-identifier-is : decimal 65535 ≡ 54 ∷ 53 ∷ 53 ∷ 51 ∷ 53 ∷ []
-unfolding decimal digits
-largest-identifier-is = refl
+use Rattle.text.specs.Decimal.{digits, decimal}
+use Rattle.report.specs.Line.{rule-text, event-text, from-text, to-text, other-text, line-end, line}
 
 -- "pass"
 pub pass-line : line pass ≡ 112 ∷ 97 ∷ 115 ∷ 115 ∷ 10 ∷ []

@@ -1,21 +1,9 @@
 -- The line that is printed for a verdict, as bytes of ASCII: "pass", "refused N", or "rule R event E from S to T other U", and a line end.
 -- The numbers are decimal.
-use Prim.Native.Nat.{ℕ, zero, suc, _+_, _/_, _%_}
+use Prim.Native.Nat.{ℕ}
 use mathlib.Core.List.{List, [], _∷_, _++_}
+use Rattle.text.specs.Decimal.{decimal}
 use Rattle.restrictive.specs.Verdict.{Verdict, pass, refused, breaks}
-
--- The last decimal digit of n.
-abbrev pub last-digit : ℕ → ℕ
-last-digit n = 48 + n % 10
-
--- The digits of n: the last, and before it those of n / 10, unless that is 0. There are at most `most` of them.
-unfoldable pub digits : ℕ → ℕ → List ℕ
-digits zero n = []
-digits (suc most) n = elim (n / 10) [ zero ↦ [] | suc q ↦ digits most (suc q) ] ++ (last-digit n ∷ [])
-
--- n in decimal, with no zeros in front; 0 is "0". n + 1 digits are always enough.
-unfoldable pub decimal : ℕ → List ℕ
-decimal n = digits (suc n) n
 
 -- "pass"
 abbrev pub pass-text : List ℕ

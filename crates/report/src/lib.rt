@@ -1,6 +1,4 @@
 // The line that is printed for a verdict (specs/Line.antt).
-mod text;
-
 ghost use mathlib.Core.Path.{_≡_};
 ghost use mathlib.Core.List.{_++_};
 ghost use lib.ListN.{length, drop};
@@ -11,6 +9,7 @@ ghost use Rattle.report.specs.Line.{line};
 use part::Rejection;
 use restrictive::Verdict;
 use restrictive::Violation;
+use text::decimal::labelled;
 use words::copy::lay;
 
 // How long a line can be: five numbers have 20 digits each at most, and the words around them 30 bytes.
@@ -20,7 +19,7 @@ fn refusal(r: Rejection, out: &mut [u8; LINE]) -> usize
     ensures { λ n. ⌜ n ≡ length (line (refused (number-of r))) ⌝ }
     ensures { λ n. ⌜ now (out .exit) ≡ line (refused (number-of r)) ++ drop n (now (out .entry)) ⌝ }
 {
-    let at = text::labelled(b"refused ", r.number() as usize, out, 0);
+    let at = labelled(b"refused ", r.number() as usize, out, 0);
     lay(b"\n", out, at)
 }
 
@@ -28,11 +27,11 @@ fn violation(v: Violation, out: &mut [u8; LINE]) -> usize
     ensures { λ n. ⌜ n ≡ length (line (breaks (named v))) ⌝ }
     ensures { λ n. ⌜ now (out .exit) ≡ line (breaks (named v)) ++ drop n (now (out .entry)) ⌝ }
 {
-    let event = text::labelled(b"rule ", v.rule, out, 0);
-    let from = text::labelled(b" event ", v.event, out, event);
-    let to = text::labelled(b" from ", v.s, out, from);
-    let other = text::labelled(b" to ", v.t, out, to);
-    let end = text::labelled(b" other ", v.u, out, other);
+    let event = labelled(b"rule ", v.rule, out, 0);
+    let from = labelled(b" event ", v.event, out, event);
+    let to = labelled(b" from ", v.s, out, from);
+    let other = labelled(b" to ", v.t, out, to);
+    let end = labelled(b" other ", v.u, out, other);
     lay(b"\n", out, end)
 }
 

@@ -3,6 +3,8 @@ pub mod Fronts
 pub mod Stepping
 pub mod Walks
 pub mod Readings
+pub mod Appending
+pub mod Hooking
 pub mod Expected
 pub mod Simulation
 pub mod Theorems

@@ -40,13 +40,16 @@ counted s n e = go (walk s) refl
         let many : n ≡ length rs = cc in
         record { ends = rw same q; many = rw same (sym many) }
 
-pub uncounted : (s : List ℕ) → refused 12 ≡ count s → records s ≡ []
-unfolding count records
-uncounted s e = go (walk s) refl
+pub endless : (s : List ℕ) → refused 12 ≡ count s → walk s ≡ none
+endless s e = go (walk s) refl
   where
-    go : (o : Option (List (List ℕ))) → walk s ≡ o → records s ≡ []
-    go none q = rw (q, records)
+    go : (o : Option (List (List ℕ))) → walk s ≡ o → walk s ≡ none
+    go none q = q
     go (some rs) q = let yes = count-some s rs (length rs) q refl in let z : _≡_ {A = ℕ} 0 1 = cc in absurd (omega arith)
+
+pub uncounted : (s : List ℕ) → refused 12 ≡ count s → records s ≡ []
+unfolding records
+uncounted s e = rw (endless s e, records)
 
 -- ---- the records of a walk stand at the start
 
@@ -133,3 +136,20 @@ part-between s n i a e c l p q =
     rw (size, p)
     (subst (λ (t : List ℕ). take (length (getD (records s) i [])) (drop (place (records s) i) t) ≡ getD (records s) i []) (sym (begun .so))
     (piece (records s) (begun .rest) i inside))
+
+record-within : (rs : List (List ℕ)) (i : ℕ) → length (getD rs i []) ≤ length (flatten rs)
+unfolding flatten
+record-within [] i = omega arith
+record-within (r ∷ rs) zero = omega (arith, length-append r (flatten rs))
+record-within (r ∷ rs) (suc i) = omega (arith, record-within rs i, length-append r (flatten rs))
+
+-- A record has no more bytes than the shelf.
+pub part-within : (s : List ℕ) (i : ℕ) → length (part s i) ≤ length s
+unfolding part records
+part-within s i = go (walk s) refl
+  where
+    go : (o : Option (List (List ℕ))) → walk s ≡ o → length (part s i) ≤ length s
+    go none q = rw (q, records) (omega arith)
+    go (some rs) q =
+        let begun = walk-begins s rs q in
+        rw (q, records) (omega (arith, record-within rs i, length-append (flatten rs) (begun .rest), ap length (begun .so)))

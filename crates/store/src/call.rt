@@ -1,44 +1,101 @@
-// Count and Part (document 01, "The shelf").
+// Clear, Load and Hookup (document 01, "The shelf").
 ghost use mathlib.Core.Path.{_≡_};
-ghost use Rattle.store.specs.Answers.{counts};
-ghost use Rattle.store.specs.Reading.{count, part};
+ghost use Prim.Native.Nat.{_≤_};
+ghost use lib.ListN.{length, take};
+ghost use Rattle.store.specs.Answers.{clears, loads, hooks};
+ghost use Rattle.store.specs.Calls.{clear, load, passes, hookup};
+use crate::answer::Clearing;
 use crate::answer::Counting;
-use crate::walk::Standing;
-use crate::walk::front;
-use crate::walk::offset;
+use crate::answer::Hooking;
+use crate::answer::Loading;
+use crate::append::append;
+use crate::append::append_joined;
+use crate::append::put_end;
+use crate::reading::count;
+use crate::reading::part;
+use part::Part;
+use restrictive::Verdict;
+use restrictive::call::check;
+use words::copy::lay;
 
-// The number of records before the end record.
-pub fn count(s: &[u8]) -> Counting
-    ensures { λ r. ⌜ counts r ≡ count (now (s .entry)) ⌝ }
+// The end record at the start.
+pub fn clear(s: &mut [u8]) -> Clearing
+    ensures { λ r. ⌜ clears r ≡ clear (now (s .entry)) .answer ⌝ }
+    ensures { λ r. ⌜ now (s .exit) ≡ clear (now (s .entry)) .shelf ⌝ }
 {
-    let mut at = 0;
-    let mut n = 0;
-    loop {
-        let standing = front(s, at);
-        match standing {
-            Standing::End => return Counting::Count(n),
-            Standing::Neither => return Counting::NoEnd,
-            Standing::Record(size) => {
-                at += size;
-                n += 1;
-            }
-        }
+    if s.len() < Part::HEADER {
+        return Clearing::NoEnd;
+    }
+    put_end(s, 0);
+    Clearing::Cleared
+}
+
+// The record r behind the records that are there, if it passes Check.
+pub fn load(s: &mut [u8], r: &[u8]) -> Loading
+    ensures { λ a. ⌜ loads a ≡ load (now (s .entry)) (now (r .entry)) .answer ⌝ }
+    ensures { λ a. ⌜ now (s .exit) ≡ load (now (s .entry)) (now (r .entry)) .shelf ⌝ }
+{
+    let counted = count(s);
+    let Counting::Count(n) = counted else {
+        return Loading::NoEnd;
+    };
+    let checked = check(r);
+    match checked {
+        Verdict::Refused(k) => return Loading::Refused(k),
+        Verdict::Break(v) => return Loading::Break(v),
+        Verdict::Pass => {}
+    }
+    append(s, n, r)
+}
+
+// r passes Check.
+fn passes(r: &[u8]) -> bool
+    ensures { λ a. ⌜ a ≡ passes (now (r .entry)) ⌝ }
+{
+    let checked = check(r);
+    match checked {
+        Verdict::Pass => true,
+        Verdict::Refused(_) => false,
+        Verdict::Break(_) => false,
     }
 }
 
-// The bytes of record i, as a part of the shelf; empty where there is none.
-pub fn part(s: &[u8], i: usize) -> &[u8]
-    ensures { λ r. ⌜ now r ≡ part (now (s .entry)) i ⌝ }
+// A copy of the record r, which the shelf may change under.
+fn copied(r: &[u8]) -> [u8; 16586]
+    requires { ⌜ length (now r) ≤ 16586 ⌝ }
+    ensures { λ a. ⌜ take (length (now (r .entry))) a ≡ now (r .entry) ⌝ }
+{
+    let mut a = [0u8; 16586];
+    lay(r, &mut a, 0);
+    a
+}
+
+// The joined record of records i and j, behind the records that are there.
+pub fn hookup(s: &mut [u8], i: usize, j: usize) -> Hooking
+    ensures { λ r. ⌜ hooks r ≡ hookup (now (s .entry)) i j .answer ⌝ }
+    ensures { λ r. ⌜ now (s .exit) ≡ hookup (now (s .entry)) i j .shelf ⌝ }
 {
     let counted = count(s);
-    let zero = 0;
     let Counting::Count(n) = counted else {
-        return &s[zero..zero];
+        return Hooking::NoEnd;
     };
     if n <= i {
-        return &s[zero..zero];
+        return Hooking::NoPart;
     }
-    let start = offset(s, i);
-    let end = offset(s, i + 1);
-    &s[start..end]
+    if n <= j {
+        return Hooking::NoPart;
+    }
+    let first = part(s, i);
+    if !passes(first) {
+        return Hooking::Unfit;
+    }
+    let second = part(s, j);
+    if !passes(second) {
+        return Hooking::Unfit;
+    }
+    let p = first.len();
+    let q = second.len();
+    let a = copied(first);
+    let b = copied(second);
+    append_joined(s, n, &a[..p], &b[..q])
 }

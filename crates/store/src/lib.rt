@@ -1,6 +1,6 @@
 // The shelf: a record store.
 pub mod answer;
+mod append;
 pub mod call;
+pub mod reading;
 mod walk;
-
-pub use answer::Counting;

@@ -1,13 +1,12 @@
 // Reads a record from standard input and prints the line of its verdict. Of a longer input only the first 65,536 bytes are checked: no
 // record is that long, so they are refused.
-mod input;
-
 ghost use mathlib.Core.Path.{_≡_};
 ghost use mathlib.Core.List.{_++_};
 ghost use lib.ListN.{length, drop};
 ghost use Rattle.report.specs.Line.{line};
 ghost use Rattle.restrictive.specs.Verdict.{verdict};
 use input::Input;
+use input::read_all;
 use libc::STDERR_FILENO;
 use libc::STDOUT_FILENO;
 use restrictive::call::check;
@@ -30,7 +29,7 @@ fn print(b: &[u8]) {
 
 fn main() {
     let mut buffer = [0u8; 65536];
-    match input::read_all(&mut buffer) {
+    match read_all(&mut buffer) {
         Input::Read(n) => print(&buffer[..n]),
         Input::Failed => {
             io::write_all(STDERR_FILENO, b"verdict: cannot read standard input\n");

@@ -1,0 +1,7 @@
+pub mod Script
+pub mod Slots
+pub mod Performed
+pub mod Running
+pub mod Answers
+pub mod Theorems
+pub mod Examples

@@ -1,0 +1,32 @@
+-- A whole list of calls run at once: its outcome, the shelf and the answers afterwards.
+use Prim.Native.Nat.{ℕ, _*_}
+use mathlib.Core.Bool.{cond}
+use mathlib.Core.List.{List}
+use mathlib.Core.Option.{none, some}
+use lib.Dec.{ltb}
+use lib.ListN.{length}
+use Rattle.words.specs.Laid.{over}
+use Rattle.store.specs.Model.{Call}
+use Rattle.store.specs.Demand.{shelf-after, shelf-answers}
+use Rattle.batch.specs.Script.{calls}
+use Rattle.batch.specs.Slots.{slots}
+
+-- So many calls were made; or none, since the script is malformed, or there are too few bytes for the answers.
+pub data Outcome : Type 0 where
+  ran : ℕ → Outcome
+  malformed too-few : Outcome
+
+-- The outcome, and the two lent buffers after it.
+pub record Left : Type 0 where
+  pub outcome : Outcome
+  pub shelf : List ℕ
+  pub answers : List ℕ
+
+-- 48 bytes for each answer.
+unfoldable pub run-calls : List Call → List ℕ → List ℕ → Left
+run-calls cs s out =
+    cond (ltb (length out) (length cs * 48)) (record { outcome = too-few; shelf = s; answers = out })
+    (record { outcome = ran (length cs); shelf = shelf-after cs s; answers = over out 0 (slots (shelf-answers cs s)) })
+
+unfoldable pub run : List ℕ → List ℕ → List ℕ → Left
+run script s out = elim (calls script) [ none ↦ record { outcome = malformed; shelf = s; answers = out } | some cs ↦ run-calls cs s out ]

@@ -1,0 +1,16 @@
+// The answers about a whole script. specs/Answers.antt gives each its meaning.
+
+// How many calls a script has.
+pub enum Listing {
+    Calls(usize),
+    Malformed,
+}
+
+pub enum Running {
+    // So many calls were made.
+    Ran(usize),
+    // Something else than calls of Clear, Load and Hookup stands in the script.
+    Malformed,
+    // Too few bytes for the answers.
+    TooFew,
+}

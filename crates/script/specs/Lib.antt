@@ -1,0 +1,3 @@
+pub mod Operation
+pub mod Answers
+pub mod Examples

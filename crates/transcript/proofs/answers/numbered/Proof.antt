@@ -1,0 +1,20 @@
+use native.Mathlib.Omega.{arith}
+use borrow.Author.Needs.{needs}
+use Rattle.words.proofs.Laying.{then, laid-start}
+use Rattle.transcript.proofs.answers.numbered.Statement.{statement}
+use Rattle.transcript.proofs.answers.numbered.Tie as tie
+
+labelled-requires : tie.Need-labelled-requires
+labelled-requires c κs = search needs
+
+slice-aggregate-lay : tie.Need-slice-aggregate-lay
+slice-aggregate-lay c = search needs
+
+lay-requires : tie.Need-lay-requires
+lay-requires c κs = search needs
+
+returns : tie.Need-returns
+returns c = laid-start (then (c .before .before .before .labelled .ensures .0) (c .lay .ensures)) (omega arith)
+
+pub numbered-spec : {M : Type 1} → statement M
+numbered-spec = tie.close (tie.spec labelled-requires slice-aggregate-lay lay-requires returns)

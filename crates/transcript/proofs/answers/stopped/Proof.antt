@@ -1,0 +1,63 @@
+use borrow.Author.Needs.{needs}
+use Rattle.report.specs.Line.{line}
+use Rattle.composite.specs.Answers.{obstacle-of}
+use Rattle.store.specs.Answer.{obstacle-answer}
+use Rattle.transcript.specs.Lines.{answer-line}
+use Rattle.transcript.proofs.answers.stopped.Statement.{statement}
+use Rattle.transcript.proofs.answers.stopped.Tie as tie
+
+enum-told : tie.Need-enum-told
+enum-told c = search needs
+
+slice-aggregate-numbered : tie.Need-slice-aggregate-numbered
+slice-aggregate-numbered c = search needs
+
+numbered-requires : tie.Need-numbered-requires
+numbered-requires c κs = search needs
+
+enum-known-o : tie.Need-enum-known-o
+enum-known-o c = search needs
+
+slice-aggregate-numbered-2 : tie.Need-slice-aggregate-numbered-2
+slice-aggregate-numbered-2 c = search needs
+
+numbered-requires-2 : tie.Need-numbered-requires-2
+numbered-requires-2 c κs = search needs
+
+enum-told-2 : tie.Need-enum-told-2
+enum-told-2 c = search needs
+
+slice-aggregate-numbered-3 : tie.Need-slice-aggregate-numbered-3
+slice-aggregate-numbered-3 c = search needs
+
+numbered-requires-3 : tie.Need-numbered-requires-3
+numbered-requires-3 c κs = search needs
+
+returns : tie.Need-returns
+unfolding answer-line line obstacle-of obstacle-answer
+returns c = rw (c .before .before .before .enum-told .given .1) (c .numbered .ensures)
+
+returns-2 : tie.Need-returns-2
+unfolding answer-line line obstacle-of obstacle-answer
+returns-2 c = rw (c .before .before .before .before .o .given .1) (c .numbered2 .ensures)
+
+returns-3 : tie.Need-returns-3
+unfolding answer-line line obstacle-of obstacle-answer
+returns-3 c = rw (c .before .before .before .enum-told2 .given .1) (c .numbered3 .ensures)
+
+pub stopped-spec : {M : Type 1} → statement M
+stopped-spec =
+    tie.close
+    (tie.spec
+    enum-told
+    slice-aggregate-numbered
+    numbered-requires
+    enum-known-o
+    slice-aggregate-numbered-2
+    numbered-requires-2
+    enum-told-2
+    slice-aggregate-numbered-3
+    numbered-requires-3
+    returns
+    returns-2
+    returns-3)

@@ -1,0 +1,3 @@
+// The lines of a replay.
+pub mod answers;
+pub mod contents;
