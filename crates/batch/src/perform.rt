@@ -9,9 +9,7 @@ ghost use Rattle.batch.specs.Answers.{lists};
 ghost use Rattle.batch.specs.Performed.{Performed};
 ghost use Rattle.batch.specs.Script.{call-of, sized, calls};
 use crate::answer::Listing;
-use crate::slot::put_clearing;
-use crate::slot::put_hooking;
-use crate::slot::put_loading;
+use crate::slot::put_answer;
 use script::Operation;
 use script::decode;
 use store::call::clear;
@@ -63,15 +61,15 @@ pub fn perform(script: &[u8], at: usize, shelf: &mut [u8], out: &mut [u8], slot:
     let op = decode(script, at);
     match op {
         Operation::Clear => {
-            put_clearing(out, slot, clear(shelf));
+            put_answer(out, slot, clear(shelf).answer());
             at + 1
         }
         Operation::Load(n) => {
-            put_loading(out, slot, load(shelf, &script[at + 5..at + 5 + n]));
+            put_answer(out, slot, load(shelf, &script[at + 5..at + 5 + n]).answer());
             at + 5 + n
         }
         Operation::Hookup(i, j) => {
-            put_hooking(out, slot, hookup(shelf, i, j));
+            put_answer(out, slot, hookup(shelf, i, j).answer());
             at + 9
         }
         Operation::Count => at,

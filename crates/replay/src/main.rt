@@ -12,12 +12,13 @@ use libc::STDOUT_FILENO;
 use report::LINE;
 use script::Operation;
 use script::decode;
+use store::answer::Answer;
 use store::call::clear;
 use store::call::hookup;
 use store::call::load;
 use store::reading::count;
 use store::reading::part;
-use transcript::answers;
+use transcript::answer;
 use transcript::contents;
 use words::le;
 
@@ -36,27 +37,11 @@ fn print(line: &[u8]) -> bool {
     false
 }
 
-fn print_clear(shelf: &mut [u8]) -> bool {
+fn print_answer(word: &[u8], a: Answer) -> bool
+    requires { ⌜ length (now word) ≤ 32 ⌝ }
+{
     let mut out = [0u8; LINE];
-    let n = answers::clearing(clear(shelf), &mut out);
-    print(&out[..n])
-}
-
-fn print_load(shelf: &mut [u8], r: &[u8]) -> bool {
-    let mut out = [0u8; LINE];
-    let n = answers::loading(load(shelf, r), &mut out);
-    print(&out[..n])
-}
-
-fn print_hookup(shelf: &mut [u8], i: usize, j: usize) -> bool {
-    let mut out = [0u8; LINE];
-    let n = answers::hooking(hookup(shelf, i, j), &mut out);
-    print(&out[..n])
-}
-
-fn print_count(shelf: &[u8]) -> bool {
-    let mut out = [0u8; LINE];
-    let n = answers::counting(count(shelf), &mut out);
+    let n = answer::line(word, a, &mut out);
     print(&out[..n])
 }
 
@@ -100,13 +85,25 @@ fn step(script: &[u8], at: usize, shelf: &mut [u8]) -> Next
 {
     let op = decode(script, at);
     match op {
-        Operation::Clear => onward(print_clear(shelf), Next::Place(at + 1)),
-        Operation::Load(n) => onward(
-            print_load(shelf, &script[at + 5..at + 5 + n]),
-            Next::Place(at + 5 + n),
+        Operation::Clear => onward(
+            print_answer(b"", clear(shelf).answer()),
+            Next::Place(at + 1),
         ),
-        Operation::Hookup(i, j) => onward(print_hookup(shelf, i, j), Next::Place(at + 9)),
-        Operation::Count => onward(print_count(shelf), Next::Place(at + 1)),
+        Operation::Load(n) => {
+            let loaded = load(shelf, &script[at + 5..at + 5 + n]);
+            onward(
+                print_answer(b"part ", loaded.answer()),
+                Next::Place(at + 5 + n),
+            )
+        }
+        Operation::Hookup(i, j) => {
+            let joined = hookup(shelf, i, j);
+            onward(print_answer(b"part ", joined.answer()), Next::Place(at + 9))
+        }
+        Operation::Count => onward(
+            print_answer(b"count ", count(shelf).answer()),
+            Next::Place(at + 1),
+        ),
         Operation::Part(i) => onward(print_part(shelf, i), Next::Place(at + 5)),
         Operation::Ended => Next::Nothing,
         Operation::Truncated => onward(print(b"truncated\n"), Next::Nothing),

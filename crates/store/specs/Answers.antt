@@ -2,6 +2,8 @@
 use Rattle.part.specs.Answers.{number-of}
 use Rattle.restrictive.specs.Answers.{named}
 use Rattle.composite.specs.Answers.{obstacle-of}
+use Rattle.store.specs.declared.answer.Answer as call
+use Rattle.store.specs.declared.answer.Answer.the-variants.{Gives, Refused, Clash, Breaks}
 use Rattle.store.specs.declared.answer.Counting.{Counting}
 use Rattle.store.specs.declared.answer.Counting.the-variants as counting
 use Rattle.store.specs.declared.answer.Clearing.{Clearing}
@@ -12,8 +14,15 @@ use Rattle.store.specs.declared.answer.Hooking.{Hooking}
 use Rattle.store.specs.declared.answer.Hooking.the-variants as hooking
 use Rattle.store.specs.declared.walk.Standing.{Standing}
 use Rattle.store.specs.declared.walk.Standing.the-variants.{End, Record, Neither}
-use Rattle.store.specs.Answer.{Answer, gives, refused, breaks, obstacle-answer}
+use Rattle.store.specs.Answer.{Answer, gives, refused, clash, breaks, obstacle-answer}
 use Rattle.store.specs.Walk as plain
+
+-- Any call's answer.
+unfoldable pub says : call.Answer → Answer
+says (Gives n) = gives n
+says (Refused k) = refused k
+says (Clash e) = clash e
+says (Breaks v) = breaks (named v)
 
 -- A number of records; 12.
 unfoldable pub counts : Counting → Answer

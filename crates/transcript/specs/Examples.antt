@@ -5,7 +5,7 @@ use Rattle.text.specs.Decimal.{digits, decimal}
 use Rattle.text.specs.Hex.{hex}
 use Rattle.report.specs.Line.{line}
 use Rattle.store.specs.Answer.{gives, refused, clash}
-use Rattle.transcript.specs.Lines.{part-text, count-text, answer-line, shown, part-line, shelf-line}
+use Rattle.transcript.specs.Lines.{answer-line, shown, part-line, shelf-line}
 
 -- "0"
 pub clear-is : answer-line [] (gives 0) ≡ 48 ∷ 10 ∷ []
@@ -13,22 +13,22 @@ unfolding answer-line decimal digits
 clear-is = refl
 
 -- "part 12"
-pub part-is : answer-line part-text (gives 12) ≡ 112 ∷ 97 ∷ 114 ∷ 116 ∷ 32 ∷ 49 ∷ 50 ∷ 10 ∷ []
+pub part-is : answer-line (112 ∷ 97 ∷ 114 ∷ 116 ∷ 32 ∷ []) (gives 12) ≡ 112 ∷ 97 ∷ 114 ∷ 116 ∷ 32 ∷ 49 ∷ 50 ∷ 10 ∷ []
 unfolding answer-line decimal digits
 part-is = refl
 
 -- "count 3"
-pub count-is : answer-line count-text (gives 3) ≡ 99 ∷ 111 ∷ 117 ∷ 110 ∷ 116 ∷ 32 ∷ 51 ∷ 10 ∷ []
+pub count-is : answer-line (99 ∷ 111 ∷ 117 ∷ 110 ∷ 116 ∷ 32 ∷ []) (gives 3) ≡ 99 ∷ 111 ∷ 117 ∷ 110 ∷ 116 ∷ 32 ∷ 51 ∷ 10 ∷ []
 unfolding answer-line decimal digits
 count-is = refl
 
 -- "refused 15"
-pub refused-is : answer-line part-text (refused 15) ≡ 114 ∷ 101 ∷ 102 ∷ 117 ∷ 115 ∷ 101 ∷ 100 ∷ 32 ∷ 49 ∷ 53 ∷ 10 ∷ []
+pub refused-is : answer-line (112 ∷ 97 ∷ 114 ∷ 116 ∷ 32 ∷ []) (refused 15) ≡ 114 ∷ 101 ∷ 102 ∷ 117 ∷ 115 ∷ 101 ∷ 100 ∷ 32 ∷ 49 ∷ 53 ∷ 10 ∷ []
 unfolding answer-line line decimal digits
 refused-is = refl
 
 -- "refused 10 identifier 7"
-pub clash-is : answer-line part-text (clash 7) ≡ 114 ∷ 101 ∷ 102 ∷ 117 ∷ 115 ∷ 101 ∷ 100 ∷ 32 ∷ 49 ∷ 48 ∷ 32 ∷ 105 ∷ 100 ∷ 101 ∷ 110 ∷ 116 ∷ 105 ∷ 102 ∷ 105 ∷ 101 ∷ 114 ∷ 32 ∷ 55 ∷ 10 ∷ []
+pub clash-is : answer-line (112 ∷ 97 ∷ 114 ∷ 116 ∷ 32 ∷ []) (clash 7) ≡ 114 ∷ 101 ∷ 102 ∷ 117 ∷ 115 ∷ 101 ∷ 100 ∷ 32 ∷ 49 ∷ 48 ∷ 32 ∷ 105 ∷ 100 ∷ 101 ∷ 110 ∷ 116 ∷ 105 ∷ 102 ∷ 105 ∷ 101 ∷ 114 ∷ 32 ∷ 55 ∷ 10 ∷ []
 unfolding answer-line decimal digits
 clash-is = refl
 

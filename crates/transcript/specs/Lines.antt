@@ -8,19 +8,11 @@ use Rattle.restrictive.specs.Verdict as check
 use Rattle.report.specs.Line.{line-end, line}
 use Rattle.store.specs.Answer.{Answer, gives, refused, clash, breaks}
 
--- "part "
-abbrev pub part-text : List ℕ
-part-text = 112 ∷ 97 ∷ 114 ∷ 116 ∷ 32 ∷ []
-
--- "count "
-abbrev pub count-text : List ℕ
-count-text = 99 ∷ 111 ∷ 117 ∷ 110 ∷ 116 ∷ 32 ∷ []
-
 -- "refused 10 identifier "
 abbrev pub clash-text : List ℕ
 clash-text = 114 ∷ 101 ∷ 102 ∷ 117 ∷ 115 ∷ 101 ∷ 100 ∷ 32 ∷ 49 ∷ 48 ∷ 32 ∷ 105 ∷ 100 ∷ 101 ∷ 110 ∷ 116 ∷ 105 ∷ 102 ∷ 105 ∷ 101 ∷ 114 ∷ 32 ∷ []
 
--- The word before a number that an answer gives: none for Clear, "part " for Load and Hookup, "count " for Count. Refusals and breaks are
+-- A word stands before the number that an answer gives: none for Clear, "part " for Load and Hookup, "count " for Count. Refusals and breaks are
 -- worded as they are for a verdict.
 unfoldable pub answer-line : List ℕ → Answer → List ℕ
 answer-line word (gives n) = word ++ decimal n ++ line-end

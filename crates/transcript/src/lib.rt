@@ -1,3 +1,3 @@
 // The lines of a replay.
-pub mod answers;
+pub mod answer;
 pub mod contents;

@@ -26,11 +26,20 @@ decode-requires c κs = search needs
 enum-told : tie.Need-enum-told
 enum-told c = search needs
 
-print-clear-requires : tie.Need-print-clear-requires
-print-clear-requires c κs = search needs
+slice-aggregate-print-answer : tie.Need-slice-aggregate-print-answer
+slice-aggregate-print-answer c = search needs
 
-add-t15 : tie.Need-add-t15
-add-t15 c = search needs
+clear-requires : tie.Need-clear-requires
+clear-requires c κs = search needs
+
+answer-requires : tie.Need-answer-requires
+answer-requires c κs = search needs
+
+print-answer-requires : tie.Need-print-answer-requires
+print-answer-requires c κs = search needs
+
+add-t25 : tie.Need-add-t25
+add-t25 c = search needs
 
 onward-requires : tie.Need-onward-requires
 onward-requires c κs = search needs
@@ -38,32 +47,41 @@ onward-requires c κs = search needs
 enum-known-op : tie.Need-enum-known-op
 enum-known-op c = search needs
 
-add-print-load : tie.Need-add-print-load
-add-print-load c = search needs
+add-load : tie.Need-add-load
+add-load c = search needs
 
-add-print-load-2 : tie.Need-add-print-load-2
-add-print-load-2 c = search needs
+add-load-2 : tie.Need-add-load-2
+add-load-2 c = search needs
 
-add-print-load-3 : tie.Need-add-print-load-3
-add-print-load-3 c = omega (arith, loaded (c .before .before))
+add-load-3 : tie.Need-add-load-3
+add-load-3 c = let taken = loaded (c .before .before) in omega (arith, taken)
 
-sub-print-load : tie.Need-sub-print-load
-sub-print-load c = search needs
+sub-load : tie.Need-sub-load
+sub-load c = search needs
 
-part-print-load-start : tie.Need-part-print-load-start
-part-print-load-start c = search needs
+part-load-start : tie.Need-part-load-start
+part-load-start c = search needs
 
-part-print-load-end : tie.Need-part-print-load-end
-part-print-load-end c = omega (arith, loaded (c .before .before))
+part-load-end : tie.Need-part-load-end
+part-load-end c = let taken = loaded (c .before .before) in omega (arith, taken)
 
-print-load-requires : tie.Need-print-load-requires
-print-load-requires c κs = search needs
+load-requires : tie.Need-load-requires
+load-requires c κs = search needs
 
-add-t27 : tie.Need-add-t27
-add-t27 c = search needs
+slice-aggregate-print-answer-2 : tie.Need-slice-aggregate-print-answer-2
+slice-aggregate-print-answer-2 c = search needs
 
-add-t28 : tie.Need-add-t28
-add-t28 c = omega (arith, loaded (c .before .before .before .before .before .before))
+answer-requires-2 : tie.Need-answer-requires-2
+answer-requires-2 c κs = search needs
+
+print-answer-requires-2 : tie.Need-print-answer-requires-2
+print-answer-requires-2 c κs = search needs
+
+add-t29 : tie.Need-add-t29
+add-t29 c = search needs
+
+add-t33 : tie.Need-add-t33
+add-t33 c = let taken = loaded (c .before .before .before .before .before .before .before .before .before) in omega (arith, taken)
 
 onward-requires-2 : tie.Need-onward-requires-2
 onward-requires-2 c κs = search needs
@@ -71,11 +89,20 @@ onward-requires-2 c κs = search needs
 enum-known-op-2 : tie.Need-enum-known-op-2
 enum-known-op-2 c = search needs
 
-print-hookup-requires : tie.Need-print-hookup-requires
-print-hookup-requires c κs = search needs
+hookup-requires : tie.Need-hookup-requires
+hookup-requires c κs = search needs
 
-add-t33 : tie.Need-add-t33
-add-t33 c = search needs
+slice-aggregate-print-answer-3 : tie.Need-slice-aggregate-print-answer-3
+slice-aggregate-print-answer-3 c = search needs
+
+answer-requires-3 : tie.Need-answer-requires-3
+answer-requires-3 c κs = search needs
+
+print-answer-requires-3 : tie.Need-print-answer-requires-3
+print-answer-requires-3 c κs = search needs
+
+add-t47 : tie.Need-add-t47
+add-t47 c = search needs
 
 onward-requires-3 : tie.Need-onward-requires-3
 onward-requires-3 c κs = search needs
@@ -83,11 +110,20 @@ onward-requires-3 c κs = search needs
 enum-told-2 : tie.Need-enum-told-2
 enum-told-2 c = search needs
 
-print-count-requires : tie.Need-print-count-requires
-print-count-requires c κs = search needs
+slice-aggregate-print-answer-4 : tie.Need-slice-aggregate-print-answer-4
+slice-aggregate-print-answer-4 c = search needs
 
-add-t38 : tie.Need-add-t38
-add-t38 c = search needs
+count-requires : tie.Need-count-requires
+count-requires c κs = search needs
+
+answer-requires-4 : tie.Need-answer-requires-4
+answer-requires-4 c κs = search needs
+
+print-answer-requires-4 : tie.Need-print-answer-requires-4
+print-answer-requires-4 c κs = search needs
+
+add-t56 : tie.Need-add-t56
+add-t56 c = search needs
 
 onward-requires-4 : tie.Need-onward-requires-4
 onward-requires-4 c κs = search needs
@@ -98,8 +134,8 @@ enum-known-op-3 c = search needs
 print-part-requires : tie.Need-print-part-requires
 print-part-requires c κs = search needs
 
-add-t43 : tie.Need-add-t43
-add-t43 c = search needs
+add-t61 : tie.Need-add-t61
+add-t61 c = search needs
 
 onward-requires-5 : tie.Need-onward-requires-5
 onward-requires-5 c κs = search needs
@@ -137,16 +173,16 @@ same-length c = search needs
 returns : tie.Need-returns
 unfolding size
 returns c =
-    let taken = took (c .before .before .before .before .before .before .before) Clear (c .before .before .before .before .before .enum-told .given .1) in
-    on (c .before .before .before .print-clear .result) _ _ _ (c .onward .ensures) (omega arith) (omega arith)
+    let taken = took (c .before .before .before .before .before .before .before .before .before .before) Clear (c .before .before .before .before .before .before .before .before .enum-told .given .1) in
+    on (c .before .print-answer .result) _ _ _ (c .onward .ensures) (omega arith) (omega arith)
 
 same-length-2 : tie.Need-same-length-2
 same-length-2 c = search needs
 
 returns-2 : tie.Need-returns-2
 returns-2 c =
-    let taken = loaded (c .before .before .before .before .before .before .before) in
-    on (c .before .before .before .print-load .result) _ _ _ (c .onward2 .ensures) (omega arith) (omega arith)
+    let taken = loaded (c .before .before .before .before .before .before .before .before .before .before) in
+    on (c .before .print-answer2 .result) _ _ _ (c .onward2 .ensures) (omega arith) (omega arith)
 
 same-length-3 : tie.Need-same-length-3
 same-length-3 c = search needs
@@ -154,8 +190,8 @@ same-length-3 c = search needs
 returns-3 : tie.Need-returns-3
 unfolding size
 returns-3 c =
-    let taken = took (c .before .before .before .before .before .before .before .before) (Hookup _ _) (c .before .before .before .before .before .before .op2 .given .1) in
-    on (c .before .before .before .print-hookup .result) _ _ _ (c .onward3 .ensures) (omega arith) (omega arith)
+    let taken = took (c .before .before .before .before .before .before .before .before .before .before .before) (Hookup _ _) (c .before .before .before .before .before .before .before .before .before .op2 .given .1) in
+    on (c .before .print-answer3 .result) _ _ _ (c .onward3 .ensures) (omega arith) (omega arith)
 
 same-length-4 : tie.Need-same-length-4
 same-length-4 c = search needs
@@ -163,8 +199,8 @@ same-length-4 c = search needs
 returns-4 : tie.Need-returns-4
 unfolding size
 returns-4 c =
-    let taken = took (c .before .before .before .before .before) Count (c .before .before .before .enum-told2 .given .1) in
-    on (c .before .print-count .result) _ _ _ (c .onward4 .ensures) (omega arith) (omega arith)
+    let taken = took (c .before .before .before .before .before .before .before .before) Count (c .before .before .before .before .before .before .enum-told2 .given .1) in
+    on (c .before .print-answer4 .result) _ _ _ (c .onward4 .ensures) (omega arith) (omega arith)
 
 same-length-5 : tie.Need-same-length-5
 same-length-5 c = search needs
@@ -190,31 +226,43 @@ step-spec =
     (tie.spec
     decode-requires
     enum-told
-    print-clear-requires
-    add-t15
+    slice-aggregate-print-answer
+    clear-requires
+    answer-requires
+    print-answer-requires
+    add-t25
     onward-requires
     enum-known-op
-    add-print-load
-    add-print-load-2
-    add-print-load-3
-    sub-print-load
-    part-print-load-start
-    part-print-load-end
-    print-load-requires
-    add-t27
-    add-t28
+    add-load
+    add-load-2
+    add-load-3
+    sub-load
+    part-load-start
+    part-load-end
+    load-requires
+    slice-aggregate-print-answer-2
+    answer-requires-2
+    print-answer-requires-2
+    add-t29
+    add-t33
     onward-requires-2
     enum-known-op-2
-    print-hookup-requires
-    add-t33
+    hookup-requires
+    slice-aggregate-print-answer-3
+    answer-requires-3
+    print-answer-requires-3
+    add-t47
     onward-requires-3
     enum-told-2
-    print-count-requires
-    add-t38
+    slice-aggregate-print-answer-4
+    count-requires
+    answer-requires-4
+    print-answer-requires-4
+    add-t56
     onward-requires-4
     enum-known-op-3
     print-part-requires
-    add-t43
+    add-t61
     onward-requires-5
     enum-told-3
     enum-told-4

@@ -1,4 +1,4 @@
-use mathlib.Core.Path.{refl, sym, ap}
+use mathlib.Core.Path.{refl, sym, ap, _∙_}
 use native.Mathlib.Omega.{arith}
 use borrow.Author.Needs.{needs}
 use Rattle.script.specs.Answers.{means, size}
@@ -17,8 +17,11 @@ enum-told c = search needs
 clear-requires : tie.Need-clear-requires
 clear-requires c κs = search needs
 
-put-clearing-requires : tie.Need-put-clearing-requires
-put-clearing-requires c κs = search needs
+answer-requires : tie.Need-answer-requires
+answer-requires c κs = search needs
+
+put-answer-requires : tie.Need-put-answer-requires
+put-answer-requires c κs = search needs
 
 add-result : tie.Need-add-result
 add-result c = search needs
@@ -49,15 +52,18 @@ part-load-end c = let fits = rw (c .before .before .before .op .given .1) at (c 
 load-requires : tie.Need-load-requires
 load-requires c κs = search needs
 
-put-loading-requires : tie.Need-put-loading-requires
-put-loading-requires c κs = search needs
+answer-requires-2 : tie.Need-answer-requires-2
+answer-requires-2 c κs = search needs
+
+put-answer-requires-2 : tie.Need-put-answer-requires-2
+put-answer-requires-2 c κs = search needs
 
 add-result-2 : tie.Need-add-result-2
 add-result-2 c = search needs
 
 add-result-3 : tie.Need-add-result-3
 unfolding size
-add-result-3 c = let fits = rw (c .before .before .before .before .before .before .before .before .before .before .op .given .1) at (c .before .before .before .before .before .before .before .before .before .before .before .before .decode .ensures .1) in omega (arith, fits)
+add-result-3 c = let fits = rw (c .before .before .before .before .before .before .before .before .before .before .before .op .given .1) at (c .before .before .before .before .before .before .before .before .before .before .before .before .before .decode .ensures .1) in omega (arith, fits)
 
 enum-known-op-2 : tie.Need-enum-known-op-2
 enum-known-op-2 c = search needs
@@ -65,8 +71,11 @@ enum-known-op-2 c = search needs
 hookup-requires : tie.Need-hookup-requires
 hookup-requires c κs = search needs
 
-put-hooking-requires : tie.Need-put-hooking-requires
-put-hooking-requires c κs = search needs
+answer-requires-3 : tie.Need-answer-requires-3
+answer-requires-3 c κs = search needs
+
+put-answer-requires-3 : tie.Need-put-answer-requires-3
+put-answer-requires-3 c κs = search needs
 
 add-result-4 : tie.Need-add-result-4
 add-result-4 c = search needs
@@ -95,9 +104,10 @@ same-length-2 c = search needs
 returns : tie.Need-returns
 unfolding call-of size-of means step
 returns c =
-    let told = rw (c .before .before .before .before .before .before .before .before .enum-told .given .1) at (c .before .before .before .before .before .before .before .before .before .before .decode .ensures .0) in
-    let done = c .before .before .before .before .before .clear .ensures in
-    one-call (sym (ap call-of told)) (record { shelf = done .1; answers = rw (← done .0) (c .before .before .put-clearing .ensures); behind = refl })
+    let told = rw (c .before .before .before .before .before .before .before .before .before .enum-told .given .1) at (c .before .before .before .before .before .before .before .before .before .before .before .decode .ensures .0) in
+    let done = c .before .before .before .before .before .before .clear .ensures in
+    let says = c .before .before .before .answer .ensures ∙ done .0 in
+    one-call (sym (ap call-of told)) (record { shelf = done .1; answers = rw (← says) (c .before .before .put-answer .ensures); behind = refl })
 
 same-length-3 : tie.Need-same-length-3
 same-length-3 c = search needs
@@ -108,14 +118,15 @@ same-length-4 c = search needs
 returns-2 : tie.Need-returns-2
 unfolding call-of size-of means step size
 returns-2 c =
-    let a = c .before .before .before .before .before .before .before .before .before .before .before .before .before .before .before .before .args in
-    let n = c .before .before .before .before .before .before .before .before .before .before .op .given .0 .0 in
-    let told = rw (c .before .before .before .before .before .before .before .before .before .before .op .given .1) at (c .before .before .before .before .before .before .before .before .before .before .before .before .decode .ensures) in
-    let done = c .before .before .before .before .before .load .ensures in
+    let a = c .before .before .before .before .before .before .before .before .before .before .before .before .before .before .before .before .before .args in
+    let n = c .before .before .before .before .before .before .before .before .before .before .before .op .given .0 .0 in
+    let told = rw (c .before .before .before .before .before .before .before .before .before .before .before .op .given .1) at (c .before .before .before .before .before .before .before .before .before .before .before .before .before .decode .ensures) in
+    let done = c .before .before .before .before .before .before .load .ensures in
+    let says = c .before .before .before .answer2 .ensures ∙ done .0 in
     let bytes = record-at (a .script .now) (a .at) n in
     let count = record-length (a .script .now) (a .at) n (told .1) in
     one-call (sym (ap call-of (told .0)))
-    (record { shelf = rw (← bytes) (done .1); answers = rw (← bytes, ← done .0) (c .before .before .put-loading .ensures); behind = omega (arith, count) })
+    (record { shelf = rw (← bytes) (done .1); answers = rw (← bytes, ← says) (c .before .before .put-answer2 .ensures); behind = omega (arith, count) })
 
 same-length-5 : tie.Need-same-length-5
 same-length-5 c = search needs
@@ -126,9 +137,10 @@ same-length-6 c = search needs
 returns-3 : tie.Need-returns-3
 unfolding call-of size-of means step
 returns-3 c =
-    let told = rw (c .before .before .before .before .before .before .before .before .before .op2 .given .1) at (c .before .before .before .before .before .before .before .before .before .before .before .decode .ensures .0) in
-    let done = c .before .before .before .before .before .hookup .ensures in
-    one-call (sym (ap call-of told)) (record { shelf = done .1; answers = rw (← done .0) (c .before .before .put-hooking .ensures); behind = refl })
+    let told = rw (c .before .before .before .before .before .before .before .before .before .before .op2 .given .1) at (c .before .before .before .before .before .before .before .before .before .before .before .before .decode .ensures .0) in
+    let done = c .before .before .before .before .before .before .hookup .ensures in
+    let says = c .before .before .before .answer3 .ensures ∙ done .0 in
+    one-call (sym (ap call-of told)) (record { shelf = done .1; answers = rw (← says) (c .before .before .put-answer3 .ensures); behind = refl })
 
 returns-4 : tie.Need-returns-4
 unfolding call-of means
@@ -157,7 +169,8 @@ perform-spec =
     decode-requires
     enum-told
     clear-requires
-    put-clearing-requires
+    answer-requires
+    put-answer-requires
     add-result
     enum-known-op
     add-load
@@ -167,12 +180,14 @@ perform-spec =
     part-load-start
     part-load-end
     load-requires
-    put-loading-requires
+    answer-requires-2
+    put-answer-requires-2
     add-result-2
     add-result-3
     enum-known-op-2
     hookup-requires
-    put-hooking-requires
+    answer-requires-3
+    put-answer-requires-3
     add-result-4
     enum-told-2
     enum-told-3

@@ -1,8 +1,8 @@
 use native.Mathlib.Omega.{arith}
 use borrow.Author.Needs.{needs}
 use Rattle.words.proofs.Laying.{then, laid-start}
-use Rattle.transcript.proofs.answers.numbered.Statement.{statement}
-use Rattle.transcript.proofs.answers.numbered.Tie as tie
+use Rattle.transcript.proofs.answer.numbered.Statement.{statement}
+use Rattle.transcript.proofs.answer.numbered.Tie as tie
 
 labelled-requires : tie.Need-labelled-requires
 labelled-requires c κs = search needs
