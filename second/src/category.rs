@@ -1,0 +1,290 @@
+//! Categories of inputs, by the checker's own verdict, and how often each came up.
+
+use crate::check::{self, Verdict};
+use crate::record::{self, incomparable, Part};
+use crate::wrong;
+use std::collections::BTreeMap;
+
+/// Counts by category, each with the least number that a run must reach.
+#[derive(Default)]
+pub struct Tally {
+    order: Vec<String>,
+    counts: BTreeMap<String, usize>,
+    minimums: BTreeMap<String, usize>,
+}
+
+impl Tally {
+    pub fn new() -> Tally {
+        Tally::default()
+    }
+
+    pub fn need(&mut self, name: &str, minimum: usize) {
+        assert!(!self.counts.contains_key(name), "category named twice: {}", name);
+        self.order.push(name.to_string());
+        self.counts.insert(name.to_string(), 0);
+        self.minimums.insert(name.to_string(), minimum);
+    }
+
+    /// Counts one case of a known category.
+    pub fn count(&mut self, name: &str) {
+        match self.counts.get_mut(name) {
+            Some(count) => *count += 1,
+            None => panic!("unknown category: {}", name),
+        }
+    }
+
+    /// Counts one case if the category is known.
+    pub fn count_if_known(&mut self, name: &str) {
+        if let Some(count) = self.counts.get_mut(name) {
+            *count += 1;
+        }
+    }
+
+    pub fn lacks(&self, name: &str) -> bool {
+        match self.counts.get(name) {
+            Some(count) => *count < self.minimums[name],
+            None => false,
+        }
+    }
+
+    /// The categories with too few cases.
+    pub fn too_few(&self) -> Vec<&str> {
+        let mut names = Vec::new();
+        for name in &self.order {
+            if self.counts[name] < self.minimums[name] {
+                names.push(name.as_str());
+            }
+        }
+        names
+    }
+
+    /// One line for each category.
+    pub fn print(&self) {
+        for name in &self.order {
+            println!("{:>7} (at least {:>4})  {}", self.counts[name], self.minimums[name], name);
+        }
+    }
+
+    pub fn categories(&self) -> usize {
+        self.order.len()
+    }
+}
+
+/// First, middle or last among at least three; otherwise none.
+pub fn place(index: usize, count: usize) -> Option<&'static str> {
+    if count < 3 {
+        None
+    } else if index == 0 {
+        Some("first")
+    } else if index == count - 1 {
+        Some("last")
+    } else {
+        Some("middle")
+    }
+}
+
+/// The names of rule R's places: which of event, s, t, u the verdict names freely.
+pub fn place_names(rule: u32) -> Vec<String> {
+    let named: &[&str] = match rule {
+        1 => &["event", "s"],
+        2 => &["event", "s", "t"],
+        _ => &["event", "s", "t", "u"],
+    };
+    let mut names = Vec::new();
+    for name in named {
+        for place in ["first", "middle", "last"] {
+            names.push(format!("rule {}, {} {}", rule, name, place));
+        }
+    }
+    names
+}
+
+pub const PASS_BOUNDARIES: [&str; 10] = [
+    "pass, 1 state",
+    "pass, 64 states",
+    "pass, 0 events",
+    "pass, 32 events",
+    "pass, 64 states and 32 events",
+    "pass, identifier 0",
+    "pass, identifier 65535",
+    "pass, incomparable level",
+    "pass, 64 classes",
+    "pass, breaks if at most 31 quiet steps are taken in a row",
+];
+
+pub const BREAK_BOUNDARIES: [&str; 7] = [
+    "break, 1 state",
+    "break, 64 states",
+    "break, 32 events",
+    "break, names identifier 0",
+    "break, names identifier 65535",
+    "break, names incomparable level",
+    "break by rule 4 or 5, some state comes by quiet steps to 32 others or more",
+];
+
+pub const QUIET_IGNORED: &str = "pass, 8 states or more, several classes, breaks if quiet steps are ignored";
+pub const QUIET_REMOVED: &str = "pass, 8 states or more, several classes, breaks if quiet steps are removed";
+
+pub const WRONG_READINGS: [&str; 8] = [
+    "wrong reading differs: only reachable states",
+    "wrong reading differs: no quiet steps",
+    "wrong reading differs: quiet steps before a low output alone",
+    "wrong reading differs: quiet steps behind a low output alone",
+    "wrong reading differs: high inputs quiet",
+    "wrong reading differs: incomparable is low",
+    "wrong reading differs: rank alone",
+    "wrong reading differs: all matches must agree",
+];
+
+fn pass_categories(part: &Part) -> Vec<String> {
+    let n = part.state_count();
+    let m = part.event_count();
+    let mut names = vec!["pass".to_string()];
+    if n == 1 {
+        names.push(PASS_BOUNDARIES[0].to_string());
+    }
+    if n == 64 {
+        names.push(PASS_BOUNDARIES[1].to_string());
+    }
+    if m == 0 {
+        names.push(PASS_BOUNDARIES[2].to_string());
+    }
+    if m == 32 {
+        names.push(PASS_BOUNDARIES[3].to_string());
+    }
+    if n == 64 && m == 32 {
+        names.push(PASS_BOUNDARIES[4].to_string());
+    }
+    if part.events.iter().any(|event| event.identifier == 0) {
+        names.push(PASS_BOUNDARIES[5].to_string());
+    }
+    if part.events.iter().any(|event| event.identifier == 65_535) {
+        names.push(PASS_BOUNDARIES[6].to_string());
+    }
+    if part.events.iter().any(|event| incomparable(event.level, part.observer)) {
+        names.push(PASS_BOUNDARIES[7].to_string());
+    }
+    if part.class_count() == 64 {
+        names.push(PASS_BOUNDARIES[8].to_string());
+    }
+    if n > 32 && !wrong::passes_with_few_quiet_steps(part, 31) {
+        names.push(PASS_BOUNDARIES[9].to_string());
+    }
+    if n >= 8 && part.class_count() >= 2 {
+        if !wrong::passes_without_quiet_steps(part) {
+            names.push(QUIET_IGNORED.to_string());
+        }
+        if !wrong::passes_with_quiet_steps_removed(part) {
+            names.push(QUIET_REMOVED.to_string());
+        }
+    }
+    names
+}
+
+fn break_categories(part: &Part, found: check::Break) -> Vec<String> {
+    let n = part.state_count();
+    let m = part.event_count();
+    let mut names = vec![format!("rule {}", found.rule)];
+    let mut e = 0;
+    while part.events[e].identifier != found.identifier {
+        e += 1;
+    }
+    let mut add = |name: &str, index: usize, count: usize| {
+        if let Some(place) = place(index, count) {
+            names.push(format!("rule {}, {} {}", found.rule, name, place));
+        }
+    };
+    add("event", e, m);
+    add("s", found.s, n);
+    if found.rule >= 2 {
+        add("t", found.t, n);
+    }
+    if found.rule >= 3 {
+        add("u", found.u, n);
+    }
+    if n == 1 {
+        names.push(BREAK_BOUNDARIES[0].to_string());
+    }
+    if n == 64 {
+        names.push(BREAK_BOUNDARIES[1].to_string());
+    }
+    if m == 32 {
+        names.push(BREAK_BOUNDARIES[2].to_string());
+    }
+    if found.identifier == 0 {
+        names.push(BREAK_BOUNDARIES[3].to_string());
+    }
+    if found.identifier == 65_535 {
+        names.push(BREAK_BOUNDARIES[4].to_string());
+    }
+    if incomparable(part.events[e].level, part.observer) {
+        names.push(BREAK_BOUNDARIES[5].to_string());
+    }
+    if n > 32 && found.rule >= 4 {
+        let reaches = check::quiet_reaches(part);
+        let far = reaches.iter().any(|reach| reach.iter().filter(|&&reached| reached).count() > 32);
+        if far {
+            names.push(BREAK_BOUNDARIES[6].to_string());
+        }
+    }
+    names
+}
+
+/// The categories of a record's bytes, by Check.
+pub fn of_record(bytes: &[u8]) -> Vec<String> {
+    match check::check(bytes) {
+        Verdict::Refused(number) => vec![format!("refused {}", number)],
+        Verdict::Pass => pass_categories(&record::read(bytes).unwrap()),
+        Verdict::Breaks(found) => break_categories(&record::read(bytes).unwrap(), found),
+    }
+}
+
+/// The wrong readings that would give a well-formed record another verdict (pass or not).
+pub fn wrong_readings_of(bytes: &[u8]) -> Vec<String> {
+    let part = match record::read(bytes) {
+        Ok(part) => part,
+        Err(_) => return Vec::new(),
+    };
+    let passes = check::passes(&part);
+    let readings = [
+        wrong::passes_on_reachable_states(&part),
+        wrong::passes_without_quiet_steps(&part),
+        wrong::passes_with_quiet_steps_on_one_side(&part, true),
+        wrong::passes_with_quiet_steps_on_one_side(&part, false),
+        wrong::passes_with_high_inputs_quiet(&part),
+        wrong::passes_with_incomparable_low(&part),
+        wrong::passes_by_rank_alone(&part),
+        wrong::passes_if_all_matches_agree(&part),
+    ];
+    let mut names = Vec::new();
+    for i in 0..readings.len() {
+        if readings[i] != passes {
+            names.push(WRONG_READINGS[i].to_string());
+        }
+    }
+    names
+}
+
+pub fn refused_names() -> Vec<String> {
+    (1..=8).map(|number| format!("refused {}", number)).collect()
+}
+
+pub fn break_names() -> Vec<String> {
+    let mut names = Vec::new();
+    for rule in 1..=5 {
+        names.push(format!("rule {}", rule));
+        names.extend(place_names(rule));
+    }
+    for name in BREAK_BOUNDARIES {
+        names.push(name.to_string());
+    }
+    names
+}
+
+pub fn pass_names() -> Vec<String> {
+    let mut names = vec!["pass".to_string()];
+    for name in PASS_BOUNDARIES {
+        names.push(name.to_string());
+    }
+    names
+}

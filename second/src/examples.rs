@@ -1,0 +1,134 @@
+//! The examples of document 01, "Examples", as bytes.
+
+use crate::record::{self, Event, Kind, Part};
+
+/// P, byte by byte.
+pub fn p() -> Vec<u8> {
+    let mut bytes = vec![
+        0x2E, 0x00, 0x00, 0x00, 0x01, 0x00, 0x00, 0x02, 0x00, 0x02, 0x00, 0x00, 0x01, 0x00, 0x00, 0x40, 0x02, 0x00,
+        0x01, 0x00,
+    ];
+    for row in [2u8, 1, 1, 2] {
+        bytes.extend_from_slice(&[row, 0, 0, 0, 0, 0, 0, 0]);
+    }
+    bytes
+}
+
+pub fn p_with_classes_0_1() -> Vec<u8> {
+    let mut bytes = p();
+    bytes[11] = 1;
+    bytes
+}
+
+pub fn p_event_1_stepless_in_1() -> Vec<u8> {
+    let mut bytes = p();
+    bytes[28] = 0;
+    bytes
+}
+
+pub fn p_event_2_stepless_in_1() -> Vec<u8> {
+    let mut bytes = p();
+    bytes[44] = 0;
+    bytes
+}
+
+/// P with event 2 internal, which is P joined with Q.
+pub fn p_with_event_2_internal() -> Vec<u8> {
+    let mut bytes = p();
+    bytes[18] = 2;
+    bytes
+}
+
+fn t(kind: Kind, level: u8) -> Part {
+    let events = vec![Event { identifier: 1, kind, level }];
+    let mut part = Part::without_steps(0, 0, vec![0, 0, 1], events);
+    part.steps[0][0][2] = true;
+    part
+}
+
+pub fn t_high_output() -> Vec<u8> {
+    record::write(&t(Kind::Output, 0x40))
+}
+
+pub fn t_low_input() -> Vec<u8> {
+    let mut part = t(Kind::Input, 0);
+    part.steps[0][1][1] = true;
+    part.steps[0][2][2] = true;
+    record::write(&part)
+}
+
+pub fn q() -> Vec<u8> {
+    let events = vec![Event { identifier: 2, kind: Kind::Input, level: 0 }];
+    let mut part = Part::without_steps(0, 0, vec![0], events);
+    part.steps[0][0][0] = true;
+    record::write(&part)
+}
+
+/// Z, byte by byte.
+pub fn z() -> Vec<u8> {
+    vec![5, 0, 0, 0, 1, 0, 0, 1, 0, 0, 0]
+}
+
+/// A part of n states in one class, without events, for observer 0.
+pub fn without_events(n: usize) -> Vec<u8> {
+    record::write(&Part::without_steps(0, 0, vec![0; n], Vec::new()))
+}
+
+/// A part of one state with `count` low outputs from identifier `first` on, for observer 0.
+pub fn outputs(first: u16, count: usize) -> Vec<u8> {
+    let mut events = Vec::new();
+    for i in 0..count {
+        events.push(Event { identifier: first + i as u16, kind: Kind::Output, level: 0 });
+    }
+    let mut part = Part::without_steps(0, 0, vec![0], events);
+    for e in 0..count {
+        part.steps[e][0][0] = true;
+    }
+    record::write(&part)
+}
+
+/// Source document 001, the first counterexample: a machine that counts high events until `stop` and then says
+/// whether their number was odd. Its `stop` is an output; it hears high inputs 1 and 11 and sends high output 10.
+pub fn parity_with_stop_as_output() -> Part {
+    parity(Kind::Output, &[1, 11], 10, 21)
+}
+
+/// The same with `stop` as an input; it hears high inputs 2 and 10 and sends high output 11.
+pub fn parity_with_stop_as_input() -> Part {
+    parity(Kind::Input, &[2, 10], 11, 23)
+}
+
+/// States: 0 even so far, 1 odd so far, 2 stopped even, 3 stopped odd, 4 done. `stop` is event 20; `even` is the
+/// given identifier and `odd` the next one.
+fn parity(stop: Kind, heard: &[u16], sent: u16, even: u16) -> Part {
+    let mut events = Vec::new();
+    for &identifier in heard {
+        events.push(Event { identifier, kind: Kind::Input, level: 0x40 });
+    }
+    events.push(Event { identifier: sent, kind: Kind::Output, level: 0x40 });
+    events.push(Event { identifier: 20, kind: stop, level: 0 });
+    events.push(Event { identifier: even, kind: Kind::Output, level: 0 });
+    events.push(Event { identifier: even + 1, kind: Kind::Output, level: 0 });
+    events.sort_by_key(|event| event.identifier);
+    let mut part = Part::without_steps(0, 0, vec![0, 0, 1, 2, 3], events);
+    for e in 0..part.event_count() {
+        let identifier = part.events[e].identifier;
+        if identifier == 20 {
+            part.steps[e][0][2] = true;
+            part.steps[e][1][3] = true;
+        } else if identifier == even {
+            part.steps[e][2][4] = true;
+        } else if identifier == even + 1 {
+            part.steps[e][3][4] = true;
+        } else {
+            part.steps[e][0][1] = true;
+            part.steps[e][1][0] = true;
+        }
+        if part.is_input(e) {
+            for s in 2..5 {
+                part.steps[e][s][s] = true;
+            }
+        }
+    }
+    part
+}

@@ -1,0 +1,18 @@
+//! A second checker for hookup parts, written from the papers alone. See README.md.
+
+pub mod answer;
+pub mod bench;
+pub mod cases;
+pub mod category;
+pub mod category_join;
+pub mod category_replay;
+pub mod check;
+pub mod examples;
+pub mod join;
+pub mod make;
+pub mod record;
+pub mod replay;
+pub mod rng;
+pub mod shelf;
+pub mod traces;
+pub mod wrong;

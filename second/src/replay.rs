@@ -1,0 +1,323 @@
+//! What the program `replay` prints for a script.
+//! The replay format (capacity, operations, lines), over the shelf calls of shelf.rs.
+
+use crate::answer::Answer;
+use crate::bench::Bench;
+use crate::check::break_line;
+use crate::record::u32_at;
+use crate::shelf;
+
+/// The longest script and the largest capacity.
+pub const LIMIT: usize = 262_144;
+
+/// The byte that fills the shelf at first.
+pub const FILL: u8 = 0xAA;
+
+#[derive(Clone, PartialEq, Eq, Debug)]
+pub enum Operation {
+    Clear,
+    Load(Vec<u8>),
+    Hookup(u32, u32),
+    Count,
+    Part(u32),
+}
+
+/// What comes next in a script.
+#[derive(Clone, PartialEq, Eq, Debug)]
+pub enum Next {
+    Operation(Operation, usize),
+    End,
+    Truncated,
+    Unknown,
+}
+
+/// Reads the operation at an offset; with it comes the offset behind it.
+pub fn next_operation(script: &[u8], at: usize) -> Next {
+    if at == script.len() {
+        return Next::End;
+    }
+    let rest = script.len() - at - 1;
+    let argument = at + 1;
+    match script[at] {
+        0 => Next::Operation(Operation::Clear, argument),
+        1 => {
+            if rest < 4 {
+                return Next::Truncated;
+            }
+            let length = u32_at(script, argument) as usize;
+            if rest - 4 < length {
+                return Next::Truncated;
+            }
+            let from = argument + 4;
+            Next::Operation(Operation::Load(script[from..from + length].to_vec()), from + length)
+        }
+        2 => {
+            if rest < 8 {
+                return Next::Truncated;
+            }
+            Next::Operation(Operation::Hookup(u32_at(script, argument), u32_at(script, argument + 4)), argument + 8)
+        }
+        3 => Next::Operation(Operation::Count, argument),
+        4 => {
+            if rest < 4 {
+                return Next::Truncated;
+            }
+            Next::Operation(Operation::Part(u32_at(script, argument)), argument + 4)
+        }
+        _ => Next::Unknown,
+    }
+}
+
+pub fn hex(bytes: &[u8]) -> String {
+    let digits: Vec<char> = "0123456789abcdef".chars().collect();
+    let mut text = String::new();
+    for &byte in bytes {
+        text.push(digits[byte as usize / 16]);
+        text.push(digits[byte as usize % 16]);
+    }
+    text
+}
+
+/// The line of clear, load or hookup.
+pub fn answer_line(answer: Answer) -> String {
+    match answer {
+        Answer::Cleared => "0".to_string(),
+        Answer::Part(number) => format!("part {}", number),
+        Answer::Refused(number) => format!("refused {}", number),
+        Answer::Clash(identifier) => format!("refused 10 identifier {}", identifier),
+        Answer::Breaks(found) => break_line(found),
+    }
+}
+
+pub fn count_line(count: Option<usize>) -> String {
+    match count {
+        Some(count) => format!("count {}", count),
+        None => "refused 12".to_string(),
+    }
+}
+
+pub fn part_line(bytes: &[u8]) -> String {
+    if bytes.is_empty() {
+        "part bytes 0".to_string()
+    } else {
+        format!("part bytes {} {}", bytes.len(), hex(bytes))
+    }
+}
+
+/// What an operation did.
+#[derive(Clone, PartialEq, Eq, Debug)]
+pub enum Effect {
+    Answer(Answer),
+    Count(Option<usize>),
+    Part(Vec<u8>),
+}
+
+/// One operation of a script with what it did and where the shelf's end record stood before.
+#[derive(Clone, PartialEq, Eq, Debug)]
+pub struct Done {
+    pub operation: Operation,
+    pub effect: Effect,
+    pub end_before: Option<usize>,
+}
+
+/// How the reading of a script ended.
+#[derive(Clone, Copy, PartialEq, Eq, Debug)]
+pub enum Ending {
+    ScriptTooLong,
+    CapacityTooLarge,
+    NoCapacity,
+    End,
+    Truncated,
+    Unknown,
+}
+
+/// The whole output, and what was done, for counting.
+pub struct Replay {
+    pub output: Vec<u8>,
+    pub capacity: usize,
+    pub done: Vec<Done>,
+    pub ending: Ending,
+}
+
+fn stopped(line: &str, ending: Ending) -> Replay {
+    Replay { output: format!("{}\n", line).into_bytes(), capacity: 0, done: Vec::new(), ending }
+}
+
+fn line_of(effect: &Effect) -> String {
+    match effect {
+        Effect::Answer(answer) => answer_line(*answer),
+        Effect::Count(count) => count_line(*count),
+        Effect::Part(bytes) => part_line(bytes),
+    }
+}
+
+/// One operation on the shelf.
+fn perform(shelf: &mut [u8], operation: &Operation) -> Effect {
+    match operation {
+        Operation::Clear => Effect::Answer(shelf::clear(shelf)),
+        Operation::Load(record) => Effect::Answer(shelf::load(shelf, record)),
+        Operation::Hookup(i, j) => Effect::Answer(shelf::hookup(shelf, *i as usize, *j as usize)),
+        Operation::Count => Effect::Count(shelf::count(shelf)),
+        Operation::Part(i) => Effect::Part(shelf::part(shelf, *i as usize).to_vec()),
+    }
+}
+
+/// Replays a script on a fresh shelf.
+pub fn replay(script: &[u8]) -> Replay {
+    if script.len() > LIMIT {
+        return stopped("script", Ending::ScriptTooLong);
+    }
+    if script.len() < 4 {
+        return stopped("truncated", Ending::NoCapacity);
+    }
+    let capacity = u32_at(script, 0) as usize;
+    if capacity > LIMIT {
+        return stopped("capacity", Ending::CapacityTooLarge);
+    }
+    let mut shelf = vec![FILL; capacity];
+    let mut text = String::new();
+    let mut done = Vec::new();
+    let mut at = 4;
+    let ending;
+    loop {
+        match next_operation(script, at) {
+            Next::Operation(operation, behind) => {
+                let end_before = shelf::walk(&shelf).map(|walk| walk.end);
+                let effect = perform(&mut shelf, &operation);
+                text.push_str(&line_of(&effect));
+                text.push('\n');
+                done.push(Done { operation, effect, end_before });
+                at = behind;
+            }
+            Next::End => {
+                ending = Ending::End;
+                break;
+            }
+            Next::Truncated => {
+                text.push_str("truncated\n");
+                ending = Ending::Truncated;
+                break;
+            }
+            Next::Unknown => {
+                text.push_str("unknown\n");
+                ending = Ending::Unknown;
+                break;
+            }
+        }
+    }
+    text.push_str("shelf ");
+    text.push_str(&hex(&shelf));
+    text.push('\n');
+    Replay { output: text.into_bytes(), capacity, done, ending }
+}
+
+/// The same operations on the plain bench, from the first clear on: the effects, and the bytes that the shelf
+/// must begin with. None where no clear comes or the shelf is under six bytes.
+pub fn by_bench(capacity: usize, operations: &[Operation]) -> Option<(usize, Vec<Effect>, Vec<u8>)> {
+    if capacity < 6 {
+        return None;
+    }
+    let mut first_clear = None;
+    for i in 0..operations.len() {
+        if operations[i] == Operation::Clear && first_clear.is_none() {
+            first_clear = Some(i);
+        }
+    }
+    let first_clear = first_clear?;
+    let mut bench = Bench::new(capacity);
+    let mut effects = Vec::new();
+    for operation in &operations[first_clear..] {
+        effects.push(match operation {
+            Operation::Clear => Effect::Answer(bench.clear()),
+            Operation::Load(record) => Effect::Answer(bench.load(record)),
+            Operation::Hookup(i, j) => Effect::Answer(bench.hookup(*i as usize, *j as usize)),
+            Operation::Count => Effect::Count(Some(bench.records.len())),
+            Operation::Part(i) => {
+                if (*i as usize) < bench.records.len() {
+                    Effect::Part(bench.records[*i as usize].clone())
+                } else {
+                    Effect::Part(Vec::new())
+                }
+            }
+        });
+    }
+    Some((first_clear, effects, bench.bytes()))
+}
+
+#[cfg(test)]
+mod tests {
+    use super::*;
+    use crate::examples;
+    use crate::make::Script;
+
+    fn text(script: &[u8]) -> String {
+        String::from_utf8(replay(script).output).unwrap()
+    }
+
+    #[test]
+    fn examples_of_shelf_length() {
+        let mut script = Script::new(17);
+        script.clear();
+        script.load(&examples::z());
+        assert_eq!(text(&script.bytes), "0\npart 0\nshelf 0500000001000001000000000000000000\n");
+        let mut script = Script::new(16);
+        script.clear();
+        script.load(&examples::z());
+        assert_eq!(text(&script.bytes), "0\nrefused 15\nshelf 000000000000aaaaaaaaaaaaaaaaaaaa\n");
+    }
+
+    #[test]
+    fn every_kind_of_line() {
+        let mut script = Script::new(200);
+        script.count();
+        script.part(0);
+        script.load(&[]);
+        script.hookup(0, 0);
+        script.clear();
+        script.load(&[]);
+        script.load(&examples::p_with_classes_0_1());
+        script.load(&examples::p());
+        script.load(&examples::q());
+        script.hookup(0, 2);
+        script.hookup(0, 0);
+        script.hookup(0, 1);
+        script.hookup(0, 1);
+        script.count();
+        script.part(0);
+        script.part(7);
+        let p = hex(&examples::p());
+        let q = hex(&examples::q());
+        let joined = hex(&examples::p_with_event_2_internal());
+        let used = 52 + 23 + 52 + 6;
+        let expected = format!(
+            "refused 12\npart bytes 0\nrefused 12\nrefused 12\n0\nrefused 1\nrule 2 event 1 from 0 to 1 other 0\n\
+             part 0\npart 1\nrefused 13\nrefused 10 identifier 1\npart 2\npart 3\ncount 4\npart bytes 52 {}\n\
+             part bytes 0\nshelf {}{}{}{}{}{}\n",
+            p,
+            p,
+            q,
+            joined,
+            joined,
+            "000000000000",
+            "aa".repeat(200 - used - 52)
+        );
+        assert_eq!(text(&script.bytes), expected);
+    }
+
+    #[test]
+    fn stopped_scripts() {
+        assert_eq!(text(&vec![0; LIMIT + 1]), "script\n");
+        assert_eq!(text(&[]), "truncated\n");
+        assert_eq!(text(&[6, 0, 0]), "truncated\n");
+        assert_eq!(text(&[1, 0, 4, 0]), "capacity\n");
+        assert_eq!(text(&[0, 0, 0, 0]), "shelf \n");
+        assert_eq!(text(&[2, 0, 0, 0, 0]), "refused 12\nshelf aaaa\n");
+        assert_eq!(text(&[2, 0, 0, 0, 5, 0]), "unknown\nshelf aaaa\n");
+        assert_eq!(text(&[2, 0, 0, 0, 3, 1, 1, 0, 0, 0]), "refused 12\ntruncated\nshelf aaaa\n");
+        assert_eq!(text(&[0, 0, 0, 0, 2, 0, 0, 0, 0, 0, 0, 0]), "truncated\nshelf \n");
+        assert_eq!(text(&[0, 0, 0, 0, 4, 0, 0, 0]), "truncated\nshelf \n");
+        assert_eq!(text(&[0, 0, 0, 0, 1, 255, 255, 255, 255]), "truncated\nshelf \n");
+        let full = text(&[0, 0, 4, 0]);
+        assert_eq!(full.len(), 6 + 2 * LIMIT + 1);
+    }
+}
