@@ -1,0 +1,271 @@
+//! Compares the unverified versions with the proved library: answers and output bytes.
+
+use crate::inputs::{span, Event, One, Pair, Table, HIGH, INPUT};
+use crate::VERSIONS;
+use std::collections::BTreeMap;
+
+/// Longer than any joined record.
+const ROOM: usize = 16_700;
+
+/// How often each answer came, and how many comparisons failed.
+pub struct Score {
+    pub checks: BTreeMap<u32, usize>,
+    pub joins: BTreeMap<u32, usize>,
+    pub differences: usize,
+}
+
+impl Score {
+    pub fn new() -> Self {
+        Score { checks: BTreeMap::new(), joins: BTreeMap::new(), differences: 0 }
+    }
+
+    fn fault(&mut self, what: String) {
+        self.differences += 1;
+        if self.differences <= 20 {
+            eprintln!("difference: {what}");
+        }
+    }
+
+    pub fn check(&mut self, name: &str, record: &[u8]) -> u32 {
+        let [library, others @ ..] = &VERSIONS;
+        let answer = (library.check)(record);
+        for version in others {
+            let other = (version.check)(record);
+            if other != answer {
+                self.fault(format!("check of {name}: library {answer}, {} {other}", version.name));
+            }
+        }
+        *self.checks.entry(answer).or_default() += 1;
+        answer
+    }
+
+    pub fn join(&mut self, name: &str, a: &[u8], b: &[u8], room: usize) -> u32 {
+        let before: Vec<u8> = (0..ROOM).map(|i| (i * 7 + 3) as u8).collect();
+        let mut wanted = before.clone();
+        let [library, others @ ..] = &VERSIONS;
+        let answer = (library.join)(a, b, &mut wanted[..room]);
+        for version in others {
+            let mut bytes = before.clone();
+            let other = (version.join)(a, b, &mut bytes[..room]);
+            if other != answer {
+                self.fault(format!("join of {name}: library {answer}, {} {other}", version.name));
+            } else if let Some(place) = (0..ROOM).find(|&i| bytes[i] != wanted[i]) {
+                self.fault(format!("join of {name}: byte {place} is {}, in {} {}", wanted[place], version.name, bytes[place]));
+            }
+        }
+        *self.joins.entry(answer).or_default() += 1;
+        answer
+    }
+
+    /// The timed inputs: also against the answers they are made for.
+    pub fn timed(&mut self, ones: &[One], pairs: &[Pair]) {
+        for one in ones {
+            let answer = self.check(&one.name(), &one.record);
+            if answer != one.answer {
+                self.fault(format!("check of {}: made for {}, library {answer}", one.name(), one.answer));
+            }
+        }
+        for pair in pairs {
+            let answer = self.join(&pair.name, &pair.a, &pair.b, ROOM);
+            if answer != pair.answer {
+                self.fault(format!("join of {}: made for {}, library {answer}", pair.name, pair.answer));
+            }
+        }
+    }
+
+    /// Random parts, whole and damaged, and random bytes.
+    pub fn random(&mut self, seed: u64, rounds: usize) {
+        let dice = &mut Dice(seed);
+        for round in 0..rounds {
+            let (a, b) = couple(dice);
+            let (mut x, mut y) = (a.record(), b.record());
+            self.check(&format!("random part {round}"), &x);
+            let room = match dice.below(4) {
+                0 => dice.below(joined_len(&a, &b) + 1).min(ROOM),
+                1 => joined_len(&a, &b).min(ROOM),
+                2 => (joined_len(&a, &b) - 1).min(ROOM),
+                _ => ROOM,
+            };
+            self.join(&format!("random pair {round}"), &x, &y, room);
+            damage(dice, &mut x);
+            self.check(&format!("damaged part {round}"), &x);
+            self.join(&format!("damaged A {round}"), &x, &y, ROOM);
+            damage(dice, &mut y);
+            self.join(&format!("damaged B {round}"), &a.record(), &y, ROOM);
+            let noise: Vec<u8> = (0..dice.below(40)).map(|_| dice.below(3) as u8).collect();
+            self.check(&format!("noise {round}"), &noise);
+        }
+    }
+}
+
+/// Splitmix64.
+struct Dice(u64);
+
+impl Dice {
+    fn next(&mut self) -> u64 {
+        self.0 = self.0.wrapping_add(0x9e37_79b9_7f4a_7c15);
+        let mut x = self.0;
+        x = (x ^ x >> 30).wrapping_mul(0xbf58_476d_1ce4_e5b9);
+        x = (x ^ x >> 27).wrapping_mul(0x94d0_49bb_1331_11eb);
+        x ^ x >> 31
+    }
+
+    fn below(&mut self, end: usize) -> usize {
+        (self.next() % end as u64) as usize
+    }
+
+    fn observer(&mut self) -> u8 {
+        [0x00, 0x80, 0x81, self.next() as u8][self.below(4)]
+    }
+
+    fn one_in(&mut self, n: usize) -> bool {
+        self.below(n) == 0
+    }
+
+    /// Some of the set's bits, at least one of a set that has any.
+    fn some(&mut self, set: u64) -> u64 {
+        let picked = set & self.next();
+        if picked != 0 {
+            return picked;
+        }
+        let mut rest = set;
+        for _ in 0..self.below(set.count_ones().max(1) as usize) {
+            rest &= rest - 1;
+        }
+        rest & rest.wrapping_neg()
+    }
+}
+
+/// Two parts that often share events and often pass.
+fn couple(dice: &mut Dice) -> (Table, Table) {
+    let (na, nb) = [(8, 8), (64, 1), (1, 64), (32, 2), (5, 7), (9, 7), (2, 3), (64, 2), (1, 1)][dice.below(9)];
+    let observer = dice.observer();
+    let mut a = grouped(dice, na, observer);
+    let other = if dice.one_in(10) { dice.observer() } else { observer };
+    let mut b = grouped(dice, nb, other);
+    if !dice.one_in(8) {
+        share(dice, &mut a, &mut b);
+    }
+    (a, b)
+}
+
+/// A part made from a machine of its classes; sometimes one row is then changed.
+fn grouped(dice: &mut Dice, n: usize, observer: u8) -> Table {
+    let most = 1 + dice.below(n);
+    let k = 1 + dice.below(most);
+    let mut classes = Vec::new();
+    let mut seen = 0;
+    for s in 0..n {
+        let left = n - s;
+        let class = if k - seen >= left || (seen < k && dice.one_in(2)) || seen == 0 { seen } else { dice.below(seen) };
+        seen = seen.max(class + 1);
+        classes.push(class as u8);
+    }
+    let members: Vec<u64> = (0..seen)
+        .map(|class| (0..n).filter(|&s| classes[s] as usize == class).fold(0, |set, s| set | 1 << s))
+        .collect();
+    let mut table = Table::new(classes.clone());
+    table.observer = observer;
+    table.start = dice.below(n) as u8;
+    let m = if dice.one_in(6) { 32 } else { dice.below(18) };
+    let mut id = dice.below(4);
+    let thin = dice.one_in(3);
+    for _ in 0..m {
+        let kind = dice.below(3) as u8;
+        let level = [0x00, HIGH, 0x80, observer, observer & dice.next() as u8, dice.next() as u8][dice.below(6)];
+        let low = level >> 6 <= table.observer >> 6 && level & !table.observer & 0x3f == 0;
+        let goals: Vec<u64> = (0..seen)
+            .map(|class| match (kind == INPUT, low) {
+                (true, false) => 1 << class,
+                (true, true) => dice.some(span(0..seen)),
+                _ if dice.one_in(3) => 0,
+                _ => dice.some(span(0..seen)) & dice.some(span(0..seen)),
+            })
+            .collect();
+        let mut rows: Vec<u64> = (0..n)
+            .map(|s| {
+                (0..seen).filter(|&class| goals[classes[s] as usize] >> class & 1 == 1).fold(0, |row, class| row | dice.some(members[class]))
+            })
+            .collect();
+        if thin && kind != INPUT && dice.one_in(4) {
+            rows[dice.below(n)] = 0;
+        }
+        table.events.push(Event { id: id as u16, kind, level, rows });
+        id += 1 + dice.below(3);
+    }
+    if m > 0 && dice.one_in(3) {
+        let e = dice.below(m);
+        let s = dice.below(n);
+        table.events[e].rows[s] ^= 1 << dice.below(n);
+    }
+    table
+}
+
+/// Makes most common identifiers an output of one and an input of the other.
+fn share(dice: &mut Dice, a: &mut Table, b: &mut Table) {
+    for event in &mut a.events {
+        if let Some(other) = b.events.iter_mut().find(|other| other.id == event.id) {
+            if dice.one_in(150) {
+                continue;
+            }
+            other.level = event.level;
+            if event.kind == INPUT {
+                other.kind = 1;
+            } else {
+                event.kind = 1;
+                other.kind = INPUT;
+                let classes = &b.classes;
+                for (s, row) in other.rows.iter_mut().enumerate() {
+                    let class = (0..classes.len()).filter(|&u| classes[u] == classes[s]).fold(0, |set, u| set | 1 << u);
+                    *row = dice.some(class);
+                }
+            }
+        }
+    }
+}
+
+fn joined_len(a: &Table, b: &Table) -> usize {
+    let n = a.n() * b.n();
+    let shared = a.events.iter().filter(|event| b.events.iter().any(|other| other.id == event.id)).count();
+    let m = a.events.len() + b.events.len() - shared;
+    10 + n + 4 * m + 8 * m * n
+}
+
+fn damage(dice: &mut Dice, record: &mut Vec<u8>) {
+    for _ in 0..1 + dice.below(2) {
+        let len = record.len();
+        match dice.below(12) {
+            0 => record.truncate(dice.below(len + 1)),
+            1 => record.push(dice.next() as u8),
+            2 if len > 10 => {
+                // Cut, with a length that fits.
+                record.truncate(6 + dice.below(len - 6));
+                let body = record.len() as u32 - 6;
+                record[..4].copy_from_slice(&body.to_le_bytes());
+            }
+            3 if len > 0 => record[dice.below(len.min(10))] ^= 1 << dice.below(8),
+            4 if len > 10 => {
+                let place = dice.below(4);
+                record[6 + place] = [0, 1, 31, 32, 33, 63, 64, 65, 255][dice.below(9)];
+            }
+            5 | 6 if len > 10 => {
+                let n = record[7] as usize;
+                let place = 10 + dice.below(n.max(1));
+                if place < len {
+                    record[place] = dice.below(n.max(1)) as u8;
+                }
+            }
+            7 | 8 if len > 10 => {
+                let place = 10 + record[7] as usize + dice.below(4 * record[9].max(1) as usize);
+                if place < len {
+                    record[place] = dice.below(4) as u8;
+                }
+            }
+            _ if len > 0 => {
+                let place = dice.below(len);
+                record[place] ^= 1 << dice.below(8);
+            }
+            _ => {}
+        }
+    }
+}

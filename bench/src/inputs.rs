@@ -1,0 +1,285 @@
+//! The records that are timed.
+
+use std::ops::Range;
+
+pub const LOW: u8 = 0x00;
+pub const HIGH: u8 = 0x40;
+pub const INPUT: u8 = 0;
+pub const OUTPUT: u8 = 1;
+pub const INTERNAL: u8 = 2;
+
+/// A part before it becomes a record.
+#[derive(Clone)]
+pub struct Table {
+    pub observer: u8,
+    pub start: u8,
+    pub classes: Vec<u8>,
+    pub events: Vec<Event>,
+}
+
+#[derive(Clone)]
+pub struct Event {
+    pub id: u16,
+    pub kind: u8,
+    pub level: u8,
+    pub rows: Vec<u64>,
+}
+
+impl Table {
+    pub fn new(classes: Vec<u8>) -> Self {
+        Table { observer: 0, start: 0, classes, events: Vec::new() }
+    }
+
+    pub fn n(&self) -> usize {
+        self.classes.len()
+    }
+
+    /// Adds an event behind the others.
+    pub fn add(&mut self, kind: u8, level: u8, row: impl Fn(usize) -> u64) {
+        let id = self.events.last().map_or(1, |event| event.id + 1);
+        let rows = (0..self.n()).map(row).collect();
+        self.events.push(Event { id, kind, level, rows });
+    }
+
+    fn with(mut self, count: usize, kind: u8, level: u8, row: impl Fn(usize, usize) -> u64) -> Self {
+        for e in 0..count {
+            self.add(kind, level, |s| row(e, s));
+        }
+        self
+    }
+
+    fn last_row(&mut self, back: usize) -> &mut u64 {
+        let n = self.n();
+        &mut self.events.last_mut().unwrap().rows[n - back]
+    }
+
+    pub fn record(&self) -> Vec<u8> {
+        let (n, m) = (self.n(), self.events.len());
+        let mut bytes = Vec::new();
+        bytes.extend(((4 + n + 4 * m + 8 * m * n) as u32).to_le_bytes());
+        bytes.extend([1, 0, self.observer, n as u8, self.start, m as u8]);
+        bytes.extend(&self.classes);
+        for event in &self.events {
+            bytes.extend(event.id.to_le_bytes());
+            bytes.extend([event.kind, event.level]);
+        }
+        for event in &self.events {
+            for row in &event.rows {
+                bytes.extend(row.to_le_bytes());
+            }
+        }
+        bytes
+    }
+}
+
+/// A record for Check, with the answer it is made for.
+pub struct One {
+    pub family: &'static str,
+    pub n: usize,
+    pub m: usize,
+    pub answer: u32,
+    pub record: Vec<u8>,
+}
+
+impl One {
+    pub fn name(&self) -> String {
+        format!("{} n={} m={}", self.family, self.n, self.m)
+    }
+}
+
+/// Two records for Join, with the answer they are made for.
+pub struct Pair {
+    pub name: String,
+    pub answer: u32,
+    pub a: Vec<u8>,
+    pub b: Vec<u8>,
+}
+
+/// The states of a range, as a set.
+pub fn span(states: Range<usize>) -> u64 {
+    states.fold(0, |set, s| set | 1 << s)
+}
+
+fn own(n: usize) -> Vec<u8> {
+    (0..n as u8).collect()
+}
+
+fn single(n: usize) -> Vec<u8> {
+    vec![0; n]
+}
+
+/// State s and state s + n / 2 share a class.
+fn pairs(n: usize) -> Vec<u8> {
+    (0..n).map(|s| (s % (n / 2)) as u8).collect()
+}
+
+/// Each state has its own class, but the last two share one.
+fn last_two(n: usize) -> Vec<u8> {
+    (0..n).map(|s| s.min(n - 2) as u8).collect()
+}
+
+fn line(s: usize, end: usize) -> u64 {
+    if s + 1 < end {
+        1 << (s + 1)
+    } else {
+        0
+    }
+}
+
+type Family = (&'static str, u32, fn(usize, usize) -> Table);
+
+const FAMILIES: &[Family] = &[
+    ("full output own", 0, |n, m| full(own(n), m, OUTPUT, LOW)),
+    ("full output pairs", 0, |n, m| full(pairs(n), m, OUTPUT, LOW)),
+    ("full output single", 0, |n, m| full(single(n), m, OUTPUT, LOW)),
+    ("full input own", 0, |n, m| full(own(n), m, INPUT, LOW)),
+    ("full input pairs", 0, |n, m| full(pairs(n), m, INPUT, LOW)),
+    ("full input single", 0, |n, m| full(single(n), m, INPUT, LOW)),
+    ("full quiet own", 0, |n, m| full(own(n), m, OUTPUT, HIGH)),
+    ("full quiet pairs", 0, |n, m| full(pairs(n), m, INTERNAL, HIGH)),
+    ("full quiet single", 0, |n, m| full(single(n), m, OUTPUT, HIGH)),
+    ("sparse output", 0, |n, m| Table::new(pairs(n)).with(m, OUTPUT, LOW, |e, s| turn(n, e, s))),
+    ("sparse input", 0, |n, m| Table::new(pairs(n)).with(m, INPUT, LOW, |e, s| turn(n, e, s))),
+    ("sparse quiet", 0, |n, m| Table::new(pairs(n)).with(m, OUTPUT, HIGH, |e, s| turn(n, e, s))),
+    ("sparse mixed", 0, mixed),
+    ("line quiet", 0, |n, m| Table::new(own(n)).with(m, INTERNAL, HIGH, |_, s| line(s, n))),
+    ("line stay", 0, |n, m| Table::new(own(n)).with(1, OUTPUT, HIGH, |_, s| line(s, n)).with(m - 1, OUTPUT, LOW, |_, s| 1 << s)),
+    ("line full", 0, |n, m| Table::new(own(n)).with(1, OUTPUT, HIGH, |_, s| line(s, n)).with(m - 1, OUTPUT, LOW, |_, _| span(0..n))),
+    ("line twin", 0, twin),
+    ("late rule 1", 101, late1),
+    ("late rule 2", 102, late2),
+    ("late rule 3", 103, late3),
+    ("late rule 4", 104, late4),
+    ("late rule 5", 105, late5),
+];
+
+fn full(classes: Vec<u8>, m: usize, kind: u8, level: u8) -> Table {
+    let n = classes.len();
+    Table::new(classes).with(m, kind, level, |_, _| span(0..n))
+}
+
+/// One step for each state, all around the ring.
+fn turn(n: usize, e: usize, s: usize) -> u64 {
+    1 << ((s + e + 1) % n)
+}
+
+/// Every kind and level, one step for each state.
+fn mixed(n: usize, m: usize) -> Table {
+    let mut table = Table::new(pairs(n));
+    for e in 0..m {
+        let kind = (e % 3) as u8;
+        let level = if e / 3 % 2 == 0 { LOW } else { HIGH };
+        let far = if kind == INPUT && level == HIGH { n / 2 - 1 } else { e };
+        table.add(kind, level, |s| turn(n, far, s));
+    }
+    table
+}
+
+/// Two quiet lines side by side; the other events stay.
+fn twin(n: usize, m: usize) -> Table {
+    let half = n / 2;
+    let step = move |_, s| if s < half { line(s, half) } else { line(s, n) };
+    Table::new(pairs(n)).with(1, INTERNAL, HIGH, step).with(m - 1, OUTPUT, LOW, |_, s| 1 << s)
+}
+
+/// The last input has no step in the last state.
+fn late1(n: usize, m: usize) -> Table {
+    let mut table = full(own(n), m, INPUT, LOW);
+    *table.last_row(1) = 0;
+    table
+}
+
+/// The last high input leaves the last state's class.
+fn late2(n: usize, m: usize) -> Table {
+    let classes = (0..n).map(|s| (s == n - 1) as u8).collect();
+    let mut table = Table::new(classes).with(m, INPUT, HIGH, |_, s| if s < n - 1 { span(0..n - 1) } else { 1 << s });
+    *table.last_row(1) |= 1 << (n - 2);
+    table
+}
+
+/// The last low input leads from the last state to itself, and from the one before, of the same class, to state 0 alone.
+fn late3(n: usize, m: usize) -> Table {
+    let mut table = full(last_two(n), m, INPUT, LOW);
+    *table.last_row(2) = 1;
+    *table.last_row(1) = 1 | 1 << (n - 1);
+    table
+}
+
+/// The last quiet event leads out of the last state's class; the state before it has no step.
+fn late4(n: usize, m: usize) -> Table {
+    let mut table = Table::new(last_two(n)).with(m, OUTPUT, HIGH, |_, s| if s < n - 2 { span(0..n - 2) } else { 0 });
+    *table.last_row(1) = 1 << (n - 3);
+    table
+}
+
+/// The last low output leads from the last state to itself; the state before, of the same class, has no step.
+fn late5(n: usize, m: usize) -> Table {
+    let mut table = full(last_two(n), m, OUTPUT, LOW);
+    *table.last_row(2) = 0;
+    *table.last_row(1) = 1 << (n - 1);
+    table
+}
+
+/// One state, no events.
+fn tiny1() -> Table {
+    Table::new(own(1))
+}
+
+/// Two states of one class: a high input that toggles and a low output that stays.
+fn tiny2() -> Table {
+    Table::new(single(2)).with(1, INPUT, HIGH, |_, s| 2 >> s).with(1, OUTPUT, LOW, |_, s| 1 << s)
+}
+
+pub fn checks(ns: &[usize], ms: &[usize]) -> Vec<One> {
+    let mut ones = Vec::new();
+    for (family, table) in [("tiny", tiny1()), ("tiny", tiny2())] {
+        ones.push(One { family, n: table.n(), m: table.events.len(), answer: 0, record: table.record() });
+    }
+    for &(family, answer, make) in FAMILIES {
+        for &n in ns {
+            for &m in ms {
+                ones.push(One { family, n, m, answer, record: make(n, m).record() });
+            }
+        }
+    }
+    ones
+}
+
+pub fn joins() -> Vec<Pair> {
+    let mut list = Vec::new();
+    let mut push = |name: &str, answer, a: &Table, b: &Table| {
+        list.push(Pair { name: name.to_string(), answer, a: a.record(), b: b.record() });
+    };
+    push("tiny x tiny", 0, &tiny1(), &tiny1());
+    push("tiny 2 x 1, one shared", 0, &tiny2(), &reader());
+    for (shape, is_full) in [("full", true), ("sparse", false)] {
+        let part = |n: usize, m: usize, kind: u8, first: u16| {
+            let classes = if n == 1 { single(1) } else { pairs(n) };
+            let mut table = Table::new(classes).with(m, kind, LOW, |e, s| if is_full { span(0..n) } else { turn(n, e, s) });
+            for (e, event) in table.events.iter_mut().enumerate() {
+                event.id = first + 2 * e as u16;
+            }
+            table
+        };
+        for (na, nb) in [(8, 8), (64, 1), (1, 64), (32, 2), (2, 32)] {
+            let (a, mut b) = (part(na, 32, OUTPUT, 0), part(nb, 32, INPUT, 0));
+            push(&format!("{shape} {na} x {nb}, 32 shared"), 0, &a, &b);
+            if na == 8 {
+                b.events[31].level = HIGH;
+                b.events[31].rows = (0..nb).map(|s| 1 << s).collect();
+                push(&format!("{shape} {na} x {nb}, the last of 32 clashes"), 10, &a, &b);
+            }
+            push(&format!("{shape} {na} x {nb}, 16 + 16"), 0, &part(na, 16, OUTPUT, 0), &part(nb, 16, INPUT, 1));
+        }
+        push(&format!("{shape} 64 x 1, 32 + 0"), 0, &part(64, 32, OUTPUT, 0), &tiny1());
+        push(&format!("{shape} 64 x 2, too many states"), 11, &part(64, 16, OUTPUT, 0), &part(2, 16, INPUT, 1));
+    }
+    list
+}
+
+/// One state that takes the output of `tiny2`.
+fn reader() -> Table {
+    let mut table = Table::new(own(1)).with(1, INPUT, LOW, |_, _| 1);
+    table.events[0].id = 2;
+    table
+}

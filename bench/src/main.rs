@@ -1,0 +1,327 @@
+//! Times the proved library beside the unverified versions.
+
+mod agree;
+mod fast;
+mod inputs;
+mod proved;
+mod timing;
+
+use agree::Score;
+use inputs::{One, Pair};
+use std::collections::BTreeMap;
+use std::hint::black_box;
+use std::io::Write;
+use std::path::{Path, PathBuf};
+use std::process::{exit, Command, Stdio};
+use std::time::{Duration, Instant};
+use timing::{race, Plan, Time};
+
+const USAGE: &str = "usage: bench [--quick] [--verdict PROGRAM] [--only TEXT] [--spin CALLS]
+  --quick            fewer sizes and rounds
+  --verdict PROGRAM  also times this program, end to end
+  --only TEXT        only inputs whose name contains TEXT
+  --spin CALLS       no timing: calls the library alone so often on each input, for a profiler";
+
+struct Flags {
+    quick: bool,
+    verdict: Option<PathBuf>,
+    only: String,
+    spin: Option<usize>,
+}
+
+/// One line of the table, with a time for each version.
+struct Line {
+    name: String,
+    family: &'static str,
+    n: usize,
+    m: usize,
+    times: [Time; 3],
+}
+
+impl Line {
+    fn ratio(&self, version: usize) -> f64 {
+        self.times[0].best / self.times[version].best
+    }
+}
+
+/// One way to do the job.
+pub struct Version {
+    pub name: &'static str,
+    pub check: fn(&[u8]) -> u32,
+    pub join: fn(&[u8], &[u8], &mut [u8]) -> u32,
+}
+
+/// The proved library first.
+pub static VERSIONS: [Version; 3] = [
+    Version { name: "library", check: proved::check, join: proved::join },
+    Version { name: "plain", check: fast::check_plain, join: fast::join_plain },
+    Version { name: "sharp", check: fast::check_sharp, join: fast::join_sharp },
+];
+
+/// The longest record has so many bytes.
+const LONGEST: usize = 16_586;
+
+fn main() {
+    let flags = flags();
+    let (ns, ms): (&[usize], &[usize]) = if flags.quick { (&[8, 64], &[8, 32]) } else { (&[8, 16, 32, 64], &[8, 16, 32]) };
+    let mut ones = inputs::checks(ns, ms);
+    let mut pairs = inputs::joins();
+    ones.retain(|one| one.name().contains(&flags.only));
+    pairs.retain(|pair| pair.name.contains(&flags.only));
+
+    if let Some(calls) = flags.spin {
+        spin(&ones, &pairs, calls);
+        return;
+    }
+
+    if let Some(program) = &flags.verdict {
+        // Where it is missing, better now than after the timing.
+        run(program, &[]);
+    }
+    compare(&ones, &pairs, if flags.quick { 1_000 } else { 5_000 });
+    let plan = Plan { batch: Duration::from_millis(1), rounds: if flags.quick { 5 } else { 15 } };
+    println!();
+    println!("hookup_check lies at {} mod 64.", proved::place());
+    println!("Nanoseconds for a call, best (median) of {} rounds; each ratio is the library's best by the version's best", plan.rounds);
+    let checks = time_checks(plan, &ones);
+    let joins = time_joins(plan, &pairs);
+    if flags.only.is_empty() {
+        growth(&checks, ns, ms);
+    }
+    if let Some(program) = &flags.verdict {
+        end_to_end(program, &ones, if flags.quick { 50 } else { 300 });
+    }
+    sum_up(&checks, &joins);
+}
+
+fn flags() -> Flags {
+    let mut flags = Flags { quick: false, verdict: None, only: String::new(), spin: None };
+    let mut words = std::env::args().skip(1);
+    while let Some(word) = words.next() {
+        let mut value = || words.next().unwrap_or_else(|| usage(&format!("{word} needs a value")));
+        match word.as_str() {
+            "--quick" => flags.quick = true,
+            "--verdict" => flags.verdict = Some(value().into()),
+            "--only" => flags.only = value(),
+            "--spin" => flags.spin = Some(value().parse().unwrap_or_else(|_| usage("--spin needs a number"))),
+            _ => usage(&format!("unknown flag {word}")),
+        }
+    }
+    flags
+}
+
+fn usage(message: &str) -> ! {
+    eprintln!("{message}\n{USAGE}");
+    exit(2)
+}
+
+/// Ends the run where an answer or a byte differs.
+fn compare(ones: &[One], pairs: &[Pair], rounds: usize) {
+    let mut score = Score::new();
+    score.timed(ones, pairs);
+    score.random(1, rounds);
+    println!("Compared with the library, as answer:times");
+    for (call, counts) in [("check", &score.checks), ("join", &score.joins)] {
+        let parts: Vec<String> = counts.iter().map(|(answer, times)| format!("{answer}:{times}")).collect();
+        println!("  {} {call}s  {}", counts.values().sum::<usize>(), parts.join(" "));
+    }
+    if score.differences > 0 {
+        println!("{} differences", score.differences);
+        exit(1);
+    }
+}
+
+fn spin(ones: &[One], pairs: &[Pair], calls: usize) {
+    for one in ones {
+        repeat_check(&VERSIONS[0], &one.record, calls);
+    }
+    let mut out = vec![0; LONGEST];
+    for pair in pairs {
+        repeat_join(&VERSIONS[0], pair, &mut out, calls);
+    }
+}
+
+fn repeat_check(version: &Version, record: &[u8], calls: usize) {
+    for _ in 0..calls {
+        black_box((version.check)(black_box(record)));
+    }
+}
+
+fn repeat_join(version: &Version, pair: &Pair, out: &mut [u8], calls: usize) {
+    for _ in 0..calls {
+        black_box((version.join)(black_box(&pair.a), black_box(&pair.b), black_box(out)));
+    }
+}
+
+fn time_check(plan: Plan, record: &[u8]) -> [Time; 3] {
+    race(plan, VERSIONS.each_ref().map(|version| move |calls| repeat_check(version, record, calls)))
+}
+
+fn time_join(plan: Plan, pair: &Pair) -> [Time; 3] {
+    let job = |version| {
+        let mut out = vec![0; LONGEST];
+        move |calls| repeat_join(version, pair, &mut out, calls)
+    };
+    race(plan, VERSIONS.each_ref().map(job))
+}
+
+fn time_checks(plan: Plan, ones: &[One]) -> Vec<Line> {
+    heading("check");
+    let time = |one: &One| {
+        let line = Line { name: one.name(), family: one.family, n: one.n, m: one.m, times: time_check(plan, &one.record) };
+        show(&line, &one.answer.to_string());
+        line
+    };
+    ones.iter().map(time).collect()
+}
+
+fn time_joins(plan: Plan, pairs: &[Pair]) -> Vec<Line> {
+    heading("join, and below it its two checks alone");
+    let time = |pair: &Pair| {
+        let line = Line { name: pair.name.clone(), family: "join", n: 0, m: 0, times: time_join(plan, pair) };
+        show(&line, &pair.answer.to_string());
+        let (a, b) = (time_check(plan, &pair.a), time_check(plan, &pair.b));
+        let sum = |k: usize| Time { best: a[k].best + b[k].best, median: a[k].median + b[k].median };
+        show(&Line { name: "  its checks".into(), family: "", n: 0, m: 0, times: [sum(0), sum(1), sum(2)] }, "");
+        line
+    };
+    pairs.iter().map(time).collect()
+}
+
+fn heading(title: &str) {
+    println!();
+    println!("{:<40} {:>6} {:>19} {:>19} {:>6} {:>19} {:>6}", title, "answer", "library", "plain", "ratio", "sharp", "ratio");
+}
+
+fn show(line: &Line, answer: &str) {
+    let [x, y, z] = line.times.map(|time| format!("{} ({})", number(time.best), number(time.median)));
+    println!("{:<40} {answer:>6} {x:>19} {y:>19} {:>6.2} {z:>19} {:>6.2}", line.name, line.ratio(1), line.ratio(2));
+}
+
+fn number(ns: f64) -> String {
+    if ns < 1_000.0 {
+        format!("{ns:.1}")
+    } else {
+        format!("{ns:.0}")
+    }
+}
+
+/// The factor from each size to the next.
+fn growth(lines: &[Line], ns: &[usize], ms: &[usize]) {
+    let best: BTreeMap<_, _> = lines.iter().map(|line| ((line.family, line.n, line.m), line.times)).collect();
+    let mut families: Vec<&str> = lines.iter().map(|line| line.family).filter(|&family| family != "tiny").collect();
+    families.dedup();
+    let (n, m) = (ns[ns.len() - 1], ms[ms.len() - 1]);
+    let factors = |family: &'static str, version: usize, sizes: &[(usize, usize)]| -> String {
+        let time = |(n, m)| best[&(family, n, m)][version].best;
+        sizes.windows(2).map(|two| format!("{:>6.2}", time(two[1]) / time(two[0]))).collect()
+    };
+    let by_n: Vec<_> = ns.iter().map(|&n| (n, m)).collect();
+    let by_m: Vec<_> = ms.iter().map(|&m| (n, m)).collect();
+    println!();
+    println!("Growth of the best time, as the factor from each size to the next: n through {ns:?} at m = {m} | m through {ms:?} at n = {n}");
+    println!("{:<20}{}", "", VERSIONS.each_ref().map(|version| format!("{:<36}", version.name)).concat());
+    for family in families {
+        let columns = [0, 1, 2].map(|k| format!("{:<36}", format!("{} |{}", factors(family, k, &by_n), factors(family, k, &by_m))));
+        println!("{family:<20}{}", columns.concat());
+    }
+}
+
+/// The records on which the program is timed.
+const CHOSEN: [&str; 10] = [
+    "tiny n=1 m=0",
+    "tiny n=2 m=2",
+    "full output own n=64 m=32",
+    "sparse mixed n=64 m=32",
+    "line full n=64 m=32",
+    "late rule 1 n=64 m=32",
+    "late rule 2 n=64 m=32",
+    "late rule 3 n=64 m=32",
+    "late rule 4 n=64 m=32",
+    "late rule 5 n=64 m=32",
+];
+
+/// Times the program beside one that does nothing.
+fn end_to_end(program: &Path, ones: &[One], runs: usize) {
+    println!();
+    println!("Microseconds for a run of a process, best (median) of {runs}");
+    println!("{:<28}{:>16}{:>16}{:>16}   line", "", "verdict", "true", "difference");
+    for one in ones.iter().filter(|one| CHOSEN.contains(&one.name().as_str())) {
+        let wanted = match one.answer {
+            0 => "pass\n".to_string(),
+            answer => format!("rule {} ", answer - 100),
+        };
+        let mut spent = [Vec::new(), Vec::new()];
+        let mut line = String::new();
+        for _ in 0..runs {
+            let time;
+            (time, line) = run(program, &one.record);
+            if !line.starts_with(&wanted) {
+                println!("{}: {line:?} where {wanted:?} was due", one.name());
+                exit(1);
+            }
+            spent[0].push(time);
+            spent[1].push(run(Path::new("true"), &one.record).0);
+        }
+        let [(x, p), (y, q)] = spent.map(|mut times| {
+            times.sort();
+            (times[0].as_secs_f64() * 1e6, times[runs / 2].as_secs_f64() * 1e6)
+        });
+        let cell = |best: f64, median: f64| format!("{best:.0} ({median:.0})");
+        println!("{:<28}{:>16}{:>16}{:>16}   {}", one.name(), cell(x, p), cell(y, q), cell(x - y, p - q), line.trim_end());
+    }
+}
+
+/// One run from start to exit, with the record on standard input.
+fn run(program: &Path, record: &[u8]) -> (Duration, String) {
+    let start = Instant::now();
+    let child = Command::new(program).stdin(Stdio::piped()).stdout(Stdio::piped()).spawn();
+    let mut child = child.unwrap_or_else(|why| {
+        eprintln!("{} cannot be run: {why}", program.display());
+        exit(2)
+    });
+    // `true` may be gone before the write.
+    let _ = child.stdin.take().unwrap().write_all(record);
+    let output = child.wait_with_output().unwrap();
+    (start.elapsed(), String::from_utf8_lossy(&output.stdout).into_owned())
+}
+
+fn sum_up(checks: &[Line], joins: &[Line]) {
+    println!();
+    println!("Ratios by family: least, geometric mean, largest");
+    println!("{:<20}{:<30}{:<30}", "", VERSIONS[1].name, VERSIONS[2].name);
+    let all: Vec<&Line> = checks.iter().chain(joins).collect();
+    for group in all.chunk_by(|x, y| x.family == y.family) {
+        let columns = [1, 2].map(|version| {
+            let ratios = group.iter().map(|line| line.ratio(version));
+            let (least, most) = (ratios.clone().fold(f64::MAX, f64::min), ratios.fold(0.0, f64::max));
+            format!("{:<30}", format!("{least:>9.2}{:>9.2}{most:>9.2}", mean(group, version)))
+        });
+        println!("{:<20}{}", group[0].family, columns.concat());
+    }
+
+    println!();
+    println!("Summary");
+    for version in [1, 2] {
+        let name = VERSIONS[version].name;
+        for (call, lines) in [("check", checks), ("join", joins)] {
+            let Some(worst) = lines.iter().max_by(|x, y| x.ratio(version).total_cmp(&y.ratio(version))) else {
+                continue;
+            };
+            let above = lines.iter().filter(|line| line.ratio(version) > 1.5).count();
+            let (ratio, place, count) = (worst.ratio(version), &worst.name, lines.len());
+            println!("  {call} against {name}: largest ratio {ratio:.2} at {place}; above 1.5 at {above} of {count} inputs");
+        }
+        let full: Vec<&Line> = checks.iter().filter(|line| line.family.starts_with("full")).collect();
+        if let Some(n) = full.iter().map(|line| line.n).max() {
+            let large: Vec<&Line> = full.iter().copied().filter(|line| line.n == n).collect();
+            let (mean, at_most) = (mean(&full, version), mean(&large, version));
+            println!("  check against {name}, full records: geometric mean of the ratios {mean:.2}, at n = {n} {at_most:.2}");
+        }
+    }
+}
+
+/// The geometric mean of the ratios.
+fn mean(lines: &[&Line], version: usize) -> f64 {
+    (lines.iter().map(|line| line.ratio(version).ln()).sum::<f64>() / lines.len() as f64).exp()
+}
