@@ -4,7 +4,7 @@ use Prim.Native.Nat.{ℕ, _≤_}
 use mathlib.Core.Path.{_≡_, sym, ap}
 use mathlib.Core.List.{List, _++_}
 use native.Mathlib.Omega.{arith}
-use lib.ListN.{length, take, drop, replicate, length-append, length-replicate}
+use lib.ListN.{length, take, replicate, length-append, length-replicate}
 use lib.Seq.{length-take-le}
 
 -- The text, of r bytes, stands before the rest.
@@ -21,11 +21,3 @@ module _ (m x : ℕ) where
 
   pub first : (n : ℕ) → n ≤ m → n ≡ length (take n (replicate m x))
   first n h = sym (length-take-le n (replicate m x) (room n h))
-
-  -- With other bytes in the place of the first n.
-  module _ (n : ℕ) (bytes : List ℕ) (h : n ≤ m) (same : length bytes ≡ length (take n (replicate m x))) where
-    pub covered : n ≤ length (bytes ++ drop n (replicate m x))
-    covered = simp length-append (omega (arith, first n h))
-
-    pub first-covered : n ≡ length (take n (bytes ++ drop n (replicate m x)))
-    first-covered = sym (length-take-le n (bytes ++ drop n (replicate m x)) covered)

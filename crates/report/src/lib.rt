@@ -1,6 +1,7 @@
 // The line that is printed for a verdict (specs/Line.antt).
 ghost use mathlib.Core.Path.{_≡_};
 ghost use mathlib.Core.List.{_++_};
+ghost use Prim.Native.Nat.{_≤_};
 ghost use lib.ListN.{length, drop};
 ghost use Rattle.part.specs.Answers.{number-of};
 ghost use Rattle.restrictive.specs.Answers.{named, means};
@@ -23,7 +24,9 @@ fn refusal(r: Rejection, out: &mut [u8; LINE]) -> usize
     lay(b"\n", out, at)
 }
 
-fn violation(v: Violation, out: &mut [u8; LINE]) -> usize
+// Writes the line of a break to the start of out, and answers its length. The rest of out stays.
+pub fn violation(v: Violation, out: &mut [u8]) -> usize
+    requires { ⌜ 130 ≤ length (now out) ⌝ }
     ensures { λ n. ⌜ n ≡ length (line (breaks (named v))) ⌝ }
     ensures { λ n. ⌜ now (out .exit) ≡ line (breaks (named v)) ++ drop n (now (out .entry)) ⌝ }
 {

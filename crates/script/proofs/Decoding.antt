@@ -1,11 +1,11 @@
 -- The cases of `load-of`, and those of `operation` at a place. Assumes nothing.
-use Prim.Native.Nat.{ℕ, _+_, _≤_, _<_}
+use Prim.Native.Nat.{ℕ, _+_, _-_, _≤_, _<_}
 use mathlib.Core.Path.{_≡_, sym, ap, _∙_}
 use mathlib.Core.List.{List}
 use native.Mathlib.Nat.{add-zero}
 use native.Mathlib.Omega.{arith}
 use lib.ListN.{length, getD, take, drop, length-drop}
-use lib.Seq.{getD-drop}
+use lib.Seq.{getD-drop, drop-drop, length-take-le}
 use borrow.Author.Tests.{lt-ltb, le-ltb}
 use Rattle.words.specs.LittleEndian.{byte, number}
 use Rattle.words.proofs.LittleEndian.{number-drop}
@@ -68,3 +68,15 @@ module _ (s : List ℕ) (at : ℕ) where
   pub part-at : (i : ℕ) → 4 ≡ byte s at → at + 5 ≤ length s → i ≡ number 4 s (at + 1) → operation (drop at s) ≡ part i
   unfolding call
   part-at i is h e = rw (e, ← number-drop 4 s at 1) (call-at s at 4 is (omega arith) (omega arith) h)
+
+-- ---- the record of Load in the script
+
+-- Load's record is as long as its number says.
+pub record-length : (s : List ℕ) (at n : ℕ) → at + (5 + n) ≤ length s → length (take n (drop 5 (drop at s))) ≡ n
+record-length s at n h = length-take-le n (drop 5 (drop at s)) (simp length-drop (omega arith))
+
+-- The bytes from place at + 5 to place at + 5 + n of the script are Load's record.
+pub record-at : (s : List ℕ) (at n : ℕ) → take (at + 5 + n - (at + 5)) (drop (at + 5) s) ≡ take n (drop 5 (drop at s))
+record-at s at n =
+    let size : at + 5 + n - (at + 5) ≡ n = omega arith in
+    ap (λ (k : ℕ). take k (drop (at + 5) s)) size ∙ ap (take n) (sym (drop-drop 5 at s))

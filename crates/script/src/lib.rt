@@ -1,6 +1,6 @@
 // A replay script's operations (specs/Operation.antt).
 ghost use mathlib.Core.Path.{_≡_};
-ghost use Prim.Native.Nat.{_+_, _≤_};
+ghost use Prim.Native.Nat.{_+_, _<_, _≤_, _^_};
 ghost use lib.ListN.{length, drop};
 ghost use Rattle.script.specs.Operation.{load-of, operation};
 ghost use Rattle.script.specs.Answers.{means, size};
@@ -19,6 +19,25 @@ pub enum Operation {
     // The end of the script cuts the operation off.
     Truncated,
     Unknown,
+}
+
+impl Operation {
+    // How many of the script's bytes it takes; none, where the script ends or stops there.
+    pub fn size(self) -> usize
+        requires { ⌜ size self < 2 ^ 64 ⌝ }
+        ensures { λ r. ⌜ r ≡ size self ⌝ }
+    {
+        match self {
+            Operation::Clear => 1,
+            Operation::Load(n) => 5 + n,
+            Operation::Hookup(_, _) => 9,
+            Operation::Count => 1,
+            Operation::Part(_) => 5,
+            Operation::Ended => 0,
+            Operation::Truncated => 0,
+            Operation::Unknown => 0,
+        }
+    }
 }
 
 // The bytes of an operation before a record's, by its first byte.

@@ -7,15 +7,15 @@ ghost use Rattle.text.specs.Decimal.{decimal};
 ghost use Rattle.report.specs.Line.{line-end};
 ghost use Rattle.store.specs.Answers.{says};
 ghost use Rattle.transcript.specs.Lines.{answer-line};
-use report::LINE;
-use restrictive::Verdict;
+use report::violation;
 use store::answer::Answer;
 use text::decimal::labelled;
 use words::copy::lay;
 
 // The words, and n in decimal.
-fn numbered(words: &[u8], n: usize, out: &mut [u8; LINE]) -> usize
+fn numbered(words: &[u8], n: usize, out: &mut [u8]) -> usize
     requires { ⌜ length (now words) ≤ 32 ⌝ }
+    requires { ⌜ 160 ≤ length (now out) ⌝ }
     ensures { λ r. ⌜ r ≡ length (now (words .entry) ++ decimal n ++ line-end) ⌝ }
     ensures { λ r. ⌜ now (out .exit) ≡ (now (words .entry) ++ decimal n ++ line-end) ++ drop r (now (out .entry)) ⌝ }
 {
@@ -25,8 +25,9 @@ fn numbered(words: &[u8], n: usize, out: &mut [u8; LINE]) -> usize
 
 // Writes the answer's line to the start of out, and answers its length. The rest of out stays. The word stands before a number that the answer
 // gives.
-pub fn line(word: &[u8], a: Answer, out: &mut [u8; LINE]) -> usize
+pub fn line(word: &[u8], a: Answer, out: &mut [u8]) -> usize
     requires { ⌜ length (now word) ≤ 32 ⌝ }
+    requires { ⌜ 160 ≤ length (now out) ⌝ }
     ensures { λ r. ⌜ r ≡ length (answer-line (now (word .entry)) (says a)) ⌝ }
     ensures { λ r. ⌜ now (out .exit) ≡ answer-line (now (word .entry)) (says a) ++ drop r (now (out .entry)) ⌝ }
 {
@@ -34,6 +35,6 @@ pub fn line(word: &[u8], a: Answer, out: &mut [u8; LINE]) -> usize
         Answer::Gives(n) => numbered(word, n, out),
         Answer::Refused(k) => numbered(b"refused ", k, out),
         Answer::Clash(e) => numbered(b"refused 10 identifier ", e, out),
-        Answer::Breaks(v) => report::line(Verdict::Break(v), out),
+        Answer::Breaks(v) => violation(v, out),
     }
 }

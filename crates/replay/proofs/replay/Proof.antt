@@ -1,74 +1,63 @@
-use Prim.Native.Nat.{ℕ, _-_, _<_, _≤_}
-use mathlib.Core.Path.{_≡_, _∙_}
+use Prim.Native.Nat.{ℕ, _+_, _*_, _≤_}
+use mathlib.Core.Path.{sym, subst, _∙_}
 use native.Mathlib.Omega.{arith}
 use lib.ListN.{length}
+use lib.Seq.{length-take-le}
 use borrow.Author.Needs.{needs}
-use Rattle.replay.specs.declared.Next.the-variants.{Place}
+use Rattle.transcript.specs.Lines.{shelf-line}
+use Rattle.replay.proofs.Within.{within, whole, room}
 use Rattle.replay.proofs.replay.Statement.{statement}
 use Rattle.replay.proofs.replay.Tie as tie
 
-abbrev Inv-loop : tie.InvT-loop
-Inv-loop script shelf₀ at₀ shelf at = (at ≤ length script) × (length shelf ≡ length shelf₀)
+slice-aggregate-operations : tie.Need-slice-aggregate-operations
+slice-aggregate-operations c = search needs
 
-abbrev μ-loop : tie.MeasureT-loop
-μ-loop script shelf₀ at₀ shelf at = length script - at
+operations-requires : tie.Need-operations-requires
+operations-requires c κs =
+    let start = c .before .before .before .before in
+    (start .pre .0, room 524448 0 (160 + 2 * length (start .args .shelf .now)) (omega (arith, start .pre .1)))
 
--- After a step: the next place lies behind this one and within the script, and the shelf is as long as at the start.
-module _ (c : tie.After-step Inv-loop μ-loop) where
-  turn : (place : ℕ) → c .step .result ≡ Place place
-      → (c .before .before .loop .at < place) × (place ≤ length (c .before .before .before .before .before .args .script .now))
-  turn place e = rw e at (c .step .ensures)
+slice-aggregate-shelf : tie.Need-slice-aggregate-shelf
+slice-aggregate-shelf c = search needs
 
-  kept : length (c .step .last .1 .1 .0) ≡ length (c .before .before .before .before .before .args .shelf .now)
-  kept = c .step .kept .1 .1 .0 ∙ c .before .before .loop .inv .1
+shelf-requires : tie.Need-shelf-requires
+shelf-requires c κs =
+    let done = c .before .before .before .before .before .before .operations in
+    subst (λ (k : ℕ). 64 + 2 * length (done .last .1 .0) ≤ k) (whole 524448 0 ∙ sym (done .kept .1 .1 .0)) (omega (arith, done .kept .1 .0, c .before .before .before .before .before .before .before .before .before .before .before .pre .1))
 
-loop-holds : tie.Need-loop-holds Inv-loop μ-loop
-loop-holds c = search needs
+array-share-prefix-out : tie.Need-array-share-prefix-out
+array-share-prefix-out c = within (shelf-line (c .before .before .before .before .before .before .before .before .operations .last .1 .0)) _ (c .before .shelf2 .ensures)
 
-step-requires : tie.Need-step-requires Inv-loop μ-loop
-step-requires c κs = search needs
+slice-aggregate-print : tie.Need-slice-aggregate-print
+slice-aggregate-print c = sym (length-take-le _ (c .before .before .shelf2 .last .1 .0) (array-share-prefix-out (c .before)))
 
-enum-known-next : tie.Need-enum-known-next Inv-loop μ-loop
-enum-known-next c = search needs
+print-requires : tie.Need-print-requires
+print-requires c κs = search needs
 
-loop-less : tie.Need-loop-less Inv-loop μ-loop
-loop-less c = let on = turn (c .before .before .before .before .before) _ (c .before .next .given .1) in omega arith
+same-length : tie.Need-same-length
+same-length c = search needs
 
-loop-again : tie.Need-loop-again Inv-loop μ-loop
-loop-again c = (turn (c .before .before .before .before .before) _ (c .before .next .given .1) .1, kept (c .before .before .before .before .before))
+returns : tie.Need-returns
+returns c = tt
 
-enum-told : tie.Need-enum-told Inv-loop μ-loop
-enum-told c = search needs
+same-length-2 : tie.Need-same-length-2
+same-length-2 c = search needs
 
-same-length : tie.Need-same-length Inv-loop μ-loop
-same-length c = kept (c .before .before .before .before)
-
-returns : tie.Need-returns Inv-loop μ-loop
-returns c = search needs
-
-enum-told-2 : tie.Need-enum-told-2 Inv-loop μ-loop
-enum-told-2 c = search needs
-
-same-length-2 : tie.Need-same-length-2 Inv-loop μ-loop
-same-length-2 c = kept (c .before .before .before .before)
-
-returns-2 : tie.Need-returns-2 Inv-loop μ-loop
-returns-2 c = search needs
+returns-2 : tie.Need-returns-2
+returns-2 c = tt
 
 pub replay-spec : {M : Type 1} → statement M
 replay-spec =
     tie.close
     (tie.spec
-    Inv-loop
-    μ-loop
-    loop-holds
-    step-requires
-    enum-known-next
-    loop-less
-    loop-again
-    enum-told
+    slice-aggregate-operations
+    operations-requires
+    slice-aggregate-shelf
+    shelf-requires
+    array-share-prefix-out
+    slice-aggregate-print
+    print-requires
     same-length
     returns
-    enum-told-2
     same-length-2
     returns-2)

@@ -1,7 +1,7 @@
 use Prim.Native.Nat.{ℕ, _≤_}
 use mathlib.Core.Path.{subst}
 use borrow.Author.Needs.{needs}
-use Rattle.replay.proofs.Within.{room, first, covered, first-covered}
+use Rattle.replay.proofs.Within.{room, first}
 use Rattle.replay.proofs.run.Statement.{statement}
 use Rattle.replay.proofs.run.Tie as tie
 
@@ -44,20 +44,8 @@ slice-aggregate-replay c = first 262144 170 _ (c .before .if3 .left)
 replay-requires : tie.Need-replay-requires
 replay-requires c κs = (c .before .before .before .if2 .left, subst (λ (k : ℕ). k ≤ 262144) (slice-aggregate-replay c) (c .before .if3 .left))
 
-array-share-prefix-shelf : tie.Need-array-share-prefix-shelf
-array-share-prefix-shelf c = covered 262144 170 _ (c .before .before .replay .last .1 .0) (c .before .before .before .before .if3 .left) (c .before .before .replay .kept .1 .0)
-
-slice-aggregate-print-shelf : tie.Need-slice-aggregate-print-shelf
-slice-aggregate-print-shelf c = first-covered 262144 170 _ (c .before .before .before .replay .last .1 .0) (c .before .before .before .before .before .if3 .left) (c .before .before .before .replay .kept .1 .0)
-
-print-shelf-requires : tie.Need-print-shelf-requires
-print-shelf-requires c κs = subst (λ (k : ℕ). k ≤ 262144) (slice-aggregate-print-shelf c) (c .before .before .before .before .before .if3 .left)
-
 returns-4 : tie.Need-returns-4
 returns-4 c = tt
-
-returns-5 : tie.Need-returns-5
-returns-5 c = tt
 
 pub run-spec : {M : Type 1} → statement M
 run-spec =
@@ -76,8 +64,4 @@ run-spec =
     array-borrow-prefix-shelf
     slice-aggregate-replay
     replay-requires
-    array-share-prefix-shelf
-    slice-aggregate-print-shelf
-    print-shelf-requires
-    returns-4
-    returns-5)
+    returns-4)

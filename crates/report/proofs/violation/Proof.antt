@@ -1,8 +1,8 @@
 use native.Mathlib.Omega.{arith}
+use borrow.Author.Needs.{needs}
 use Rattle.restrictive.specs.Answers.{named}
 use Rattle.words.proofs.Laying.{laid-start}
 use Rattle.report.proofs.Laying.{laid-violation}
-use borrow.Author.Needs.{needs}
 use Rattle.report.proofs.violation.Statement.{statement}
 use Rattle.report.proofs.violation.Tie as tie
 
@@ -42,23 +42,26 @@ slice-aggregate-lay c = search needs
 lay-requires : tie.Need-lay-requires
 lay-requires c κs = search needs
 
+same-length : tie.Need-same-length
+same-length c = search needs
+
 returns : tie.Need-returns
 unfolding named
 returns c =
-    let other = c .before .before .before in
-    let to = other .before .before .before in
-    let from = to .before .before .before in
-    let event = from .before .before .before in
-    let rule = event .before .before .before in
+    let other = c .before .before .before .before .before .before .before in
+    let to = other .before .before .before .before .before in
+    let from = to .before .before .before .before .before in
+    let event = from .before .before .before .before .before in
+    let rule = event .before .before .before .before .before in
     laid-start
     (laid-violation
-    (named (rule .before .before .before .args .v))
+    (named (c .before .before .before .before .before .before .before .before .before .before .before .before .before .before .before .before .before .before .before .before .before .before .before .before .before .before .before .before .before .before .before .args .v))
     (rule .labelled .ensures .0)
     (event .labelled2 .ensures .0)
     (from .labelled3 .ensures .0)
     (to .labelled4 .ensures .0)
     (other .labelled5 .ensures .0)
-    (c .lay .ensures))
+    (c .before .before .lay .ensures))
     (omega arith)
 
 pub violation-spec : {M : Type 1} → statement M
@@ -77,4 +80,5 @@ violation-spec =
     labelled-requires-5
     slice-aggregate-lay
     lay-requires
+    same-length
     returns)

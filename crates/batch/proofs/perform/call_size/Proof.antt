@@ -2,7 +2,7 @@ use native.Mathlib.Omega.{arith}
 use borrow.Author.Needs.{needs}
 use Rattle.script.specs.Answers.{means, size}
 use Rattle.batch.specs.Script.{call-of, size-of, sized}
-use Rattle.batch.proofs.Decoded.{record-length}
+use Rattle.script.proofs.Decoding.{record-length}
 use Rattle.batch.proofs.perform.call_size.Statement.{statement}
 use Rattle.batch.proofs.perform.call_size.Tie as tie
 

@@ -4,7 +4,8 @@ use borrow.Author.Needs.{needs}
 use Rattle.script.specs.Answers.{means, size}
 use Rattle.store.specs.Demand.{step}
 use Rattle.batch.specs.Script.{call-of, size-of}
-use Rattle.batch.proofs.Decoded.{one-call, no-call, record-length, record-at}
+use Rattle.script.proofs.Decoding.{record-length, record-at}
+use Rattle.batch.proofs.Decoded.{one-call, no-call}
 use Rattle.batch.proofs.perform.perform.Statement.{statement}
 use Rattle.batch.proofs.perform.perform.Tie as tie
 

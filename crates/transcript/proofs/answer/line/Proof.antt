@@ -1,5 +1,4 @@
 use borrow.Author.Needs.{needs}
-use Rattle.restrictive.specs.Answers.{means}
 use Rattle.report.specs.Line.{line}
 use Rattle.store.specs.Answers.{says}
 use Rattle.transcript.specs.Lines.{answer-line}
@@ -33,24 +32,36 @@ numbered-requires-3 c κs = search needs
 enum-known-a-4 : tie.Need-enum-known-a-4
 enum-known-a-4 c = search needs
 
-line-requires : tie.Need-line-requires
-line-requires c κs = search needs
+violation-requires : tie.Need-violation-requires
+violation-requires c κs = search needs
+
+same-length : tie.Need-same-length
+same-length c = search needs
 
 returns : tie.Need-returns
-unfolding answer-line line means says
-returns c = rw (c .before .before .before .a .given .1) (c .numbered .ensures)
+unfolding answer-line line says
+returns c = rw (c .before .before .before .before .before .a .given .1) (c .before .before .numbered .ensures)
+
+same-length-2 : tie.Need-same-length-2
+same-length-2 c = search needs
 
 returns-2 : tie.Need-returns-2
-unfolding answer-line line means says
-returns-2 c = rw (c .before .before .before .before .a2 .given .1) (c .numbered2 .ensures)
+unfolding answer-line line says
+returns-2 c = rw (c .before .before .before .before .before .before .a2 .given .1) (c .before .before .numbered2 .ensures)
+
+same-length-3 : tie.Need-same-length-3
+same-length-3 c = search needs
 
 returns-3 : tie.Need-returns-3
-unfolding answer-line line means says
-returns-3 c = rw (c .before .before .before .before .a3 .given .1) (c .numbered3 .ensures)
+unfolding answer-line line says
+returns-3 c = rw (c .before .before .before .before .before .before .a3 .given .1) (c .before .before .numbered3 .ensures)
+
+same-length-4 : tie.Need-same-length-4
+same-length-4 c = search needs
 
 returns-4 : tie.Need-returns-4
-unfolding answer-line line means says
-returns-4 c = rw (c .before .before .before .a4 .given .1) (c .line .ensures)
+unfolding answer-line line says
+returns-4 c = rw (c .before .before .before .before .before .a4 .given .1) (c .before .before .violation .ensures)
 
 pub line-spec : {M : Type 1} → statement M
 line-spec =
@@ -65,8 +76,12 @@ line-spec =
     slice-aggregate-numbered-2
     numbered-requires-3
     enum-known-a-4
-    line-requires
+    violation-requires
+    same-length
     returns
+    same-length-2
     returns-2
+    same-length-3
     returns-3
+    same-length-4
     returns-4)

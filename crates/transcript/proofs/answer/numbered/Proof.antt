@@ -13,8 +13,15 @@ slice-aggregate-lay c = search needs
 lay-requires : tie.Need-lay-requires
 lay-requires c κs = search needs
 
+same-length : tie.Need-same-length
+same-length c = search needs
+
 returns : tie.Need-returns
-returns c = laid-start (then (c .before .before .before .labelled .ensures .0) (c .lay .ensures)) (omega arith)
+returns c =
+    let number = c .before .before .before .before .before .before .before .labelled .ensures in
+    let end = c .before .before .lay .ensures in
+    laid-start (then (number .0) end) (omega (arith, number .1, end .behind))
 
 pub numbered-spec : {M : Type 1} → statement M
-numbered-spec = tie.close (tie.spec labelled-requires slice-aggregate-lay lay-requires returns)
+numbered-spec =
+    tie.close (tie.spec labelled-requires slice-aggregate-lay lay-requires same-length returns)

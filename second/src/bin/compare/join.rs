@@ -1,0 +1,245 @@
+//! Compares hookup_join: the number, every byte of the output buffer, and that nothing else is written.
+
+use crate::product::{self, Lent};
+use crate::report::differ;
+use crate::{all_examples, Comparison, LEAST, LEAST_OF_MAIN};
+use second::cases;
+use second::category::Tally;
+use second::category_join;
+use second::examples;
+use second::join::{self, JoinAnswer};
+use second::make::{self, Clash, PairPlan};
+use second::record::{self, Part};
+use second::replay::hex;
+
+/// The longest record.
+const LONGEST: usize = 16_586;
+
+pub fn need(tally: &mut Tally) {
+    for name in category_join::names() {
+        let least = if category_join::is_main(&name) { LEAST_OF_MAIN } else { LEAST };
+        tally.need(&format!("join: {}", name), least);
+    }
+    tally.need("join: joined, A and B at one address", LEAST);
+}
+
+impl Comparison {
+    /// One call of hookup_join with an output buffer of that length: its number, every byte of the buffer, nothing
+    /// written elsewhere.
+    fn join_pair(&mut self, a: &[u8], b: &[u8], room: usize) {
+        let seed = self.rng.byte() as usize;
+        let mut before = Vec::new();
+        for i in 0..room {
+            before.push((seed + 31 * i) as u8);
+        }
+        let mut expected_out = before.clone();
+        let answer = join::join(a, b, &mut expected_out);
+        let expected = join::number(answer);
+
+        let lent_a = Lent::new(&mut self.rng, a);
+        let lent_b = Lent::new(&mut self.rng, b);
+        let one_address = a == b && self.rng.chance(1, 2);
+        let given_b = if one_address { &lent_a } else { &lent_b };
+        let mut out = Lent::new(&mut self.rng, &before);
+        let got = product::join(&lent_a, given_b, &mut out);
+
+        let room_bytes = (room as u32).to_le_bytes();
+        let inputs: [(&str, &[u8]); 3] = [("A", a), ("B", b), ("length of the buffer, little-endian", &room_bytes)];
+        if got != expected {
+            differ("hookup_join", &inputs, &expected.to_string(), &got.to_string());
+        }
+        if out.content() != &expected_out[..] {
+            differ("hookup_join, output buffer", &inputs, &hex(&expected_out), &hex(out.content()));
+        }
+        if !out.guards_are_unchanged() {
+            differ("hookup_join wrote outside the output buffer", &inputs, "unchanged", &hex(out.whole()));
+        }
+        if !lent_a.is_unchanged() || !lent_b.is_unchanged() {
+            differ("hookup_join wrote to a record", &inputs, "unchanged", "changed");
+        }
+
+        for name in category_join::of_join(a, b, room, answer) {
+            self.tally.count(&format!("join: {}", name));
+        }
+        if one_address && expected == 0 {
+            self.tally.count("join: joined, A and B at one address");
+        }
+    }
+
+    fn join_parts(&mut self, a: &Part, b: &Part) {
+        let record_a = record::write(a);
+        let record_b = record::write(b);
+        let room = self.room_for(&record_a, &record_b);
+        self.join_pair(&record_a, &record_b, room);
+    }
+
+    /// A buffer length: just enough, one short, none, some bytes more, or the longest record's.
+    fn room_for(&mut self, a: &[u8], b: &[u8]) -> usize {
+        let mut out = vec![0; LONGEST];
+        let needed = match join::join(a, b, &mut out) {
+            JoinAnswer::Length(length) => length,
+            _ => 40,
+        };
+        match self.rng.below(8) {
+            0 => 0,
+            1 => needed - 1,
+            2 => self.rng.below(needed),
+            3 | 4 => needed,
+            5 => needed + 1,
+            6 => needed + self.rng.below(300),
+            _ => LONGEST,
+        }
+    }
+
+    pub fn plan(&mut self, na: usize, nb: usize) -> PairPlan {
+        PairPlan {
+            na,
+            nb,
+            only_a: self.rng.range(0, 3),
+            only_b: self.rng.range(0, 3),
+            shared: self.rng.range(1, 4),
+            clash: Clash::None,
+            observers_differ: false,
+        }
+    }
+
+    pub fn all_joins(&mut self) {
+        let examples = all_examples();
+        for a in &examples {
+            for b in &examples {
+                for room in [0, 10, 11, 51, 52, LONGEST] {
+                    self.join_pair(a, b, room);
+                }
+            }
+        }
+        self.join_examples_of_size();
+
+        // Pairs that join, of many shapes.
+        for _ in 0..2500 {
+            let (a, b) = make::joinable_pair(&mut self.rng);
+            self.join_parts(&a, &b);
+        }
+        for round in 0..20 * LEAST {
+            let (na, nb) = [(64, 1), (1, 64), (8, 8), (1, 1)][round % 4];
+            let mut plan = self.plan(na, nb);
+            if na == 1 && nb == 1 && self.rng.chance(1, 2) {
+                plan.only_a = 0;
+                plan.only_b = 0;
+                plan.shared = 0;
+            }
+            let (a, b) = make::pair(&mut self.rng, plan);
+            self.join_parts(&a, &b);
+        }
+        // 32 and 33 merged entries.
+        for round in 0..5 * LEAST {
+            let total = if round % 2 == 0 { 32 } else { 33 };
+            let shared = self.rng.range(0, 8);
+            let only_a = self.rng.range(total - 32, 32 - shared);
+            let only_a = only_a.min(total - shared);
+            let only_b = total - shared - only_a;
+            let (na, nb) = if round % 4 == 0 { (8, 8) } else { (self.rng.range(1, 4), self.rng.range(1, 4)) };
+            if only_a + shared > 32 || only_b + shared > 32 {
+                continue;
+            }
+            let plan = PairPlan { na, nb, only_a, only_b, shared, clash: Clash::None, observers_differ: false };
+            let (a, b) = make::pair(&mut self.rng, plan);
+            if round % 4 == 0 {
+                // The longest joined record there is.
+                self.join_pair(&record::write(&a), &record::write(&b), LONGEST + round % 3);
+            } else {
+                self.join_parts(&a, &b);
+            }
+        }
+        // A part without events, joined with itself.
+        for _ in 0..4 * LEAST {
+            let n = self.rng.range(1, 8);
+            let k = self.rng.range(1, n);
+            let classes = make::grouping(&mut self.rng, n, k);
+            let start = self.rng.below(n);
+            let bytes = record::write(&Part::without_steps(self.rng.byte(), start, classes, Vec::new()));
+            self.join_pair(&bytes, &bytes, 4 + n * n + 6);
+        }
+
+        // Refusals 9, 10 and 11, alone and together.
+        for round in 0..30 * LEAST {
+            let (na, nb) = match round % 4 {
+                0 => (64, 2),
+                1 => (self.rng.range(9, 13), self.rng.range(8, 12)),
+                _ => (self.rng.range(1, 5), self.rng.range(1, 5)),
+            };
+            let mut plan = self.plan(na, nb);
+            plan.observers_differ = round % 3 == 0;
+            plan.clash = [Clash::Kind, Clash::Level, Clash::None][self.rng.below(3)];
+            if round % 4 < 2 && self.rng.chance(1, 2) {
+                // Few events keep the large ones quick.
+                plan.only_a = 0;
+                plan.only_b = 0;
+            }
+            let (a, b) = make::pair(&mut self.rng, plan);
+            self.join_parts(&a, &b);
+        }
+
+        // One clash of each pair of kinds.
+        for _ in 0..10 * LEAST {
+            let na = self.rng.range(1, 3);
+            let nb = self.rng.range(1, 3);
+            let mut plan = self.plan(na, nb);
+            plan.shared = 1;
+            plan.clash = Clash::Kind;
+            let (a, b) = make::pair(&mut self.rng, plan);
+            self.join_parts(&a, &b);
+        }
+        // 11 with and without room.
+        for round in 0..3 * LEAST {
+            let (na, nb) = if round % 3 == 0 { (64, 2) } else { (self.rng.range(5, 9), self.rng.range(13, 20)) };
+            let mut plan = self.plan(na, nb);
+            plan.only_a = 1;
+            plan.shared = 1;
+            let (a, b) = make::pair(&mut self.rng, plan);
+            let room = if round % 2 == 0 { 0 } else { LONGEST };
+            self.join_pair(&record::write(&a), &record::write(&b), room);
+        }
+        // 64 classes.
+        for round in 0..2 * LEAST {
+            let (na, nb) = [(8, 8), (64, 1), (1, 64), (16, 4)][round % 4];
+            let plan = self.plan(na, nb);
+            let (mut a, mut b) = make::pair(&mut self.rng, plan);
+            a = make::regrouped(&mut self.rng, &a);
+            b = make::regrouped(&mut self.rng, &b);
+            let room = LONGEST - self.rng.below(2) * 50;
+            self.join_pair(&record::write(&a), &record::write(&b), room);
+        }
+
+        // A or B refused or broken.
+        let mut bad = cases::refused(&mut self.rng, LEAST);
+        bad.extend(cases::breaking(&mut self.rng, LEAST / 3));
+        for bytes in &bad {
+            let part = make::any_passing(&mut self.rng);
+            let good = record::write(&part);
+            let room = self.rng.pick(&[0, 100, LONGEST]);
+            self.join_pair(bytes, &good, room);
+            self.join_pair(&good, bytes, room);
+            let other = bad[self.rng.below(bad.len())].clone();
+            self.join_pair(bytes, &other, room);
+        }
+        for _ in 0..1000 {
+            let a = make::bad_record(&mut self.rng);
+            let b = make::bad_record(&mut self.rng);
+            let room = self.rng.below(200);
+            self.join_pair(&a, &b, room);
+        }
+    }
+
+    /// Document 01's examples of size.
+    fn join_examples_of_size(&mut self) {
+        let z = examples::z();
+        let with_64 = examples::without_events(64);
+        self.join_pair(&with_64, &z, LONGEST);
+        self.join_pair(&z, &with_64, LONGEST);
+        self.join_pair(&with_64, &examples::without_events(2), LONGEST);
+        self.join_pair(&examples::without_events(8), &examples::without_events(8), LONGEST);
+        self.join_pair(&examples::outputs(0, 16), &examples::outputs(16, 16), LONGEST);
+        self.join_pair(&examples::outputs(0, 16), &examples::outputs(16, 17), LONGEST);
+        self.join_pair(&examples::outputs(0, 32), &examples::outputs(32, 1), LONGEST);
+    }
+}

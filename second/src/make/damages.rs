@@ -1,0 +1,202 @@
+//! Makes records that are meant to be refused: damaged for 1 to 8, mangled, random bytes.
+
+use super::breaks::changed_steps;
+use super::passing::any_passing;
+use crate::record::{self, class_at, entry_at, row_at, u32_at, EVENT_COUNT_AT, HEADER, START_AT, STATE_COUNT_AT};
+use crate::rng::Rng;
+
+/// Damages a well-formed record towards one of the refusals 1 to 8. Where the record has no place for it (no events
+/// for 7, say), it stays as it is.
+pub fn damage(rng: &mut Rng, bytes: &mut Vec<u8>, refusal: u32) {
+    if bytes.len() <= HEADER + 4 {
+        // An earlier damage has already cut it.
+        return;
+    }
+    let n = bytes[STATE_COUNT_AT] as usize;
+    let m = bytes[EVENT_COUNT_AT] as usize;
+    match refusal {
+        1 => bytes.truncate(rng.below(6)),
+        2 => match rng.below(5) {
+            0 => {
+                let length = u32_at(bytes, 0);
+                set_length(bytes, length + 1);
+            }
+            1 => {
+                let length = u32_at(bytes, 0);
+                set_length(bytes, length - 1);
+            }
+            2 => {
+                for _ in 0..rng.range(1, 9) {
+                    bytes.push(rng.pick(&[0, 0xFF]));
+                }
+            }
+            3 => {
+                let cut = rng.range(1, bytes.len() - HEADER);
+                bytes.truncate(bytes.len() - cut);
+            }
+            _ => {
+                let at = rng.below(4);
+                bytes[at] = bytes[at].wrapping_add(rng.range(1, 255) as u8);
+            }
+        },
+        3 => match rng.below(4) {
+            0 => bytes[4] = 0,
+            1 => bytes[4] = rng.range(2, 255) as u8,
+            2 => bytes[5] = rng.range(1, 255) as u8,
+            _ => {
+                bytes[4] = 0;
+                bytes[5] = 1;
+            }
+        },
+        4 => match rng.below(6) {
+            0 => {
+                bytes.truncate(HEADER + rng.below(4));
+                let length = bytes.len() - HEADER;
+                set_length(bytes, length as u32);
+            }
+            1 => bytes[STATE_COUNT_AT] = 0,
+            2 => bytes[STATE_COUNT_AT] = rng.pick(&[65, 66, 128, 255]),
+            3 => bytes[START_AT] = n as u8,
+            4 => bytes[START_AT] = rng.range(n, 255) as u8,
+            _ => bytes[EVENT_COUNT_AT] = rng.pick(&[33, 34, 64, 255]),
+        },
+        5 => match rng.below(4) {
+            0 => {
+                for _ in 0..rng.range(1, 9) {
+                    bytes.push(0);
+                }
+                let length = bytes.len() - HEADER;
+                set_length(bytes, length as u32);
+            }
+            1 => {
+                let cut = rng.range(1, bytes.len() - HEADER - 4);
+                bytes.truncate(bytes.len() - cut);
+                let length = bytes.len() - HEADER;
+                set_length(bytes, length as u32);
+            }
+            2 => bytes[STATE_COUNT_AT] = if n < 64 { n as u8 + 1 } else { 63 },
+            _ => bytes[EVENT_COUNT_AT] = if m < 32 { m as u8 + 1 } else { 31 },
+        },
+        6 => {
+            let s = rng.pick(&[0, n / 2, n - 1]);
+            if s == 0 {
+                bytes[class_at(0)] = rng.pick(&[1, 2, 255]);
+            } else {
+                let mut largest_before = 0;
+                for before in 0..s {
+                    largest_before = largest_before.max(bytes[class_at(before)]);
+                }
+                bytes[class_at(s)] = if rng.chance(1, 2) { largest_before + 2 } else { 255 };
+            }
+        }
+        7 => {
+            if m >= 2 && rng.chance(1, 2) {
+                let e = rng.pick(&[1, m / 2, m - 1]).max(1);
+                // Two neighbours get the same identifier, or change places.
+                let changes_places = rng.chance(1, 2);
+                for i in 0..2 {
+                    let before = bytes[entry_at(n, e - 1) + i];
+                    if changes_places {
+                        bytes[entry_at(n, e - 1) + i] = bytes[entry_at(n, e) + i];
+                    }
+                    bytes[entry_at(n, e) + i] = before;
+                }
+            } else if m >= 1 {
+                let e = rng.pick(&[0, m / 2, m - 1]);
+                bytes[entry_at(n, e) + 2] = rng.pick(&[3, 4, 128, 255]);
+            }
+        }
+        _ => {
+            if m >= 1 && n < 64 {
+                let e = rng.pick(&[0, m / 2, m - 1]);
+                let s = rng.pick(&[0, n / 2, n - 1]);
+                let bit = if rng.chance(1, 3) { rng.range(n, 63) } else { rng.pick(&[n, 63]) };
+                bytes[row_at(n, m, e, s) + bit / 8] |= 1 << (bit % 8);
+            }
+        }
+    }
+}
+
+fn set_length(bytes: &mut [u8], length: u32) {
+    bytes[..4].copy_from_slice(&length.to_le_bytes());
+}
+
+/// Changes, cuts or lengthens a record at random.
+pub fn mangled(rng: &mut Rng, bytes: &[u8]) -> Vec<u8> {
+    let mut mangled = bytes.to_vec();
+    match rng.below(4) {
+        0 => {
+            for _ in 0..rng.range(1, 3) {
+                let at = rng.below(mangled.len());
+                mangled[at] ^= 1 << rng.below(8);
+            }
+        }
+        1 => {
+            for _ in 0..rng.range(1, 3) {
+                let at = rng.below(mangled.len().min(24));
+                mangled[at] = rng.byte();
+            }
+        }
+        2 => mangled.truncate(rng.below(bytes.len())),
+        _ => {
+            let count = rng.range(1, 12);
+            let more = rng.bytes(count);
+            mangled.extend_from_slice(&more);
+        }
+    }
+    mangled
+}
+
+/// Random bytes, now and then with a length field and a kind that fit.
+pub fn random_bytes(rng: &mut Rng) -> Vec<u8> {
+    let count = rng.below(80);
+    let mut bytes = rng.bytes(count);
+    if bytes.len() >= 6 && rng.chance(1, 2) {
+        let length = bytes.len() - HEADER;
+        set_length(&mut bytes, length as u32);
+        bytes[4] = 1;
+        bytes[5] = 0;
+    }
+    bytes
+}
+
+/// A record that Check refuses or finds broken, for the most part.
+pub fn bad_record(rng: &mut Rng) -> Vec<u8> {
+    let part = any_passing(rng);
+    let mut bytes = record::write(&part);
+    match rng.below(4) {
+        0 => {
+            let refusal = rng.range(1, 8) as u32;
+            damage(rng, &mut bytes, refusal);
+            bytes
+        }
+        1 => record::write(&changed_steps(rng, &part)),
+        2 => mangled(rng, &bytes),
+        _ => random_bytes(rng),
+    }
+}
+
+#[cfg(test)]
+mod tests {
+    use super::*;
+    use crate::check::{self, Verdict};
+    use crate::make::passing_of_size;
+
+    #[test]
+    fn damages_are_refused_as_meant() {
+        let mut rng = Rng::new(53);
+        for refusal in 1..=8 {
+            let mut as_meant = 0;
+            for _ in 0..100 {
+                let n = rng.range(2, 6);
+                let m = rng.range(2, 5);
+                let mut bytes = record::write(&passing_of_size(&mut rng, n, m));
+                damage(&mut rng, &mut bytes, refusal);
+                if check::check(&bytes) == Verdict::Refused(refusal) {
+                    as_meant += 1;
+                }
+            }
+            assert!(as_meant > 60, "refusal {}: {}", refusal, as_meant);
+        }
+    }
+}

@@ -1,0 +1,22 @@
+//! Makers of inputs. What an input turns out to be is decided by the checker, never by its maker.
+
+mod breaks;
+mod damages;
+mod groupings;
+mod levels;
+mod lines;
+mod pairs;
+mod passing;
+mod scripts;
+
+pub use breaks::{breaking, changed_steps, damaged_out_of_reach, small_random_table, Place, Wanted, PLACES};
+pub use damages::{bad_record, damage, mangled, random_bytes};
+pub use groupings::{any_grouping, by_first_appearance, grouping};
+pub use levels::{event, high_level, identifiers, low_level, observer, random_events, Role, ROLES};
+pub use lines::{cut_line, line};
+pub use pairs::{bus, joinable_pair, pair, regrouped, rename, small_joinable_pair, third_for, Clash, PairPlan};
+pub use passing::{
+    any_passing, full, passing_of_size, passing_with, passing_with_quiet_steps, small_passing, vary, Quiet,
+    LITTLE_QUIET, SOME_QUIET,
+};
+pub use scripts::{calls, capacity_needed, hookup_calls, session, Script};

@@ -1,0 +1,150 @@
+//! Makes lists of calls, and scripts for `replay`.
+
+use super::damages::bad_record;
+use super::pairs::bus;
+use super::passing::any_passing;
+use crate::bench::{self, Call};
+use crate::examples;
+use crate::join;
+use crate::record::{self, push_u32, Part};
+use crate::rng::Rng;
+
+/// A random list of calls on parts of one bus.
+pub fn calls(rng: &mut Rng, count: usize) -> Vec<Call> {
+    let parts = rng.range(2, 5);
+    let pool = bus(rng, parts, 4);
+    let mut calls = Vec::new();
+    for _ in 0..count {
+        calls.push(match rng.below(10) {
+            0 => {
+                if rng.chance(1, 3) {
+                    Call::Clear
+                } else {
+                    Call::Load(bad_record(rng))
+                }
+            }
+            1..=4 => Call::Load(record::write(&pool[rng.below(pool.len())])),
+            5 => Call::Load(examples::z()),
+            _ => Call::Hookup(rng.below(6), rng.below(6)),
+        });
+    }
+    calls
+}
+
+/// A script for `replay`.
+#[derive(Clone)]
+pub struct Script {
+    pub bytes: Vec<u8>,
+}
+
+impl Script {
+    pub fn new(capacity: usize) -> Script {
+        let mut bytes = Vec::new();
+        push_u32(&mut bytes, capacity as u32);
+        Script { bytes }
+    }
+
+    pub fn clear(&mut self) {
+        self.bytes.push(0);
+    }
+
+    pub fn load(&mut self, record: &[u8]) {
+        self.bytes.push(1);
+        push_u32(&mut self.bytes, record.len() as u32);
+        self.bytes.extend_from_slice(record);
+    }
+
+    pub fn hookup(&mut self, i: u32, j: u32) {
+        self.bytes.push(2);
+        push_u32(&mut self.bytes, i);
+        push_u32(&mut self.bytes, j);
+    }
+
+    pub fn count(&mut self) {
+        self.bytes.push(3);
+    }
+
+    pub fn part(&mut self, i: u32) {
+        self.bytes.push(4);
+        push_u32(&mut self.bytes, i);
+    }
+
+    pub fn call(&mut self, call: &Call) {
+        match call {
+            Call::Clear => self.clear(),
+            Call::Load(record) => self.load(record),
+            Call::Hookup(i, j) => self.hookup(*i as u32, *j as u32),
+        }
+    }
+}
+
+/// A session on parts of one bus: loads, hookups of racks, counts, parts, now and then a clear.
+pub fn session(rng: &mut Rng, capacity: usize, operations: usize) -> Script {
+    let mut script = Script::new(capacity);
+    if rng.chance(1, 4) {
+        script.count();
+        script.part(0);
+        script.load(&examples::z());
+        script.hookup(0, 0);
+    }
+    script.clear();
+    let parts = rng.range(2, 6);
+    let pool = bus(rng, parts, 4);
+    for part in &pool {
+        script.load(&record::write(part));
+    }
+    let mut held = pool.len();
+    for _ in 0..operations {
+        match rng.below(20) {
+            0 => script.load(&bad_record(rng)),
+            1 => {
+                let part = any_passing(rng);
+                script.load(&record::write(&part));
+                held += 1;
+            }
+            2 => script.count(),
+            3 | 4 => script.part(rng.below(held + 2) as u32),
+            5 => script.hookup(rng.below(held + 2) as u32, rng.pick(&[held as u32 + 9, u32::MAX, 1 << 31])),
+            6 => script.hookup(rng.pick(&[held as u32 + 9, u32::MAX, 1 << 31]), rng.below(held + 2) as u32),
+            7 => {
+                if rng.chance(1, 6) {
+                    script.clear();
+                    held = pool.len();
+                    for part in &pool {
+                        script.load(&record::write(part));
+                    }
+                } else {
+                    let n = rng.range(1, 9);
+                    script.load(&examples::without_events(n));
+                    held += 1;
+                }
+            }
+            8 => {
+                let i = rng.below(held) as u32;
+                script.hookup(i, i);
+            }
+            _ => {
+                script.hookup(rng.below(held) as u32, rng.below(held) as u32);
+                if rng.chance(1, 2) {
+                    held += 1;
+                }
+            }
+        }
+    }
+    script
+}
+
+/// The capacity that a list of calls needs so that nothing is refused with 15, on a bench of that capacity.
+pub fn capacity_needed(calls: &[Call]) -> usize {
+    let (bench, _) = bench::run(1 << 24, calls);
+    bench.bytes().len()
+}
+
+/// Loads of A and B and their hookup, with the bytes that all three records and the end record take.
+pub fn hookup_calls(a: &Part, b: &Part) -> (Vec<Call>, usize) {
+    let record_a = record::write(a);
+    let record_b = record::write(b);
+    let joined = join::joined_record(a, b);
+    let total = record_a.len() + record_b.len() + joined.len() + 6;
+    (vec![Call::Load(record_a), Call::Load(record_b), Call::Hookup(0, 1)], total)
+}
