@@ -10,7 +10,7 @@ use native.Mathlib.Omega.{arith}
 use borrow.Author.Tests.{eqb-true, eq-eqb, ne-eqb, lt-ltb, le-ltb}
 use lib.Dec.{eqb, ltb}
 use lib.ListN.{length, getD}
-use Rattle.bounded.specs.Search.{all, first, or-else}
+use Rattle.bounded.specs.Search.{all, or-else}
 use Rattle.bounded.proofs.Search.{all-at, true-or-false}
 use Rattle.machine.specs.Machine.{Kind, Event, absent, event}
 use Rattle.part.specs.Limits.{max-states, max-events, max-event-kind}
@@ -89,13 +89,15 @@ module _ (a b : List ℕ) {x y : ℕ} (p : x ≡ states a) (q : y ≡ states b) 
 -- ---- the first obstacle
 
 module _ (a b : List ℕ) where
-  pub clash-here : (i : ℕ) → clashes (event-of a (identifier a i)) (event-of b (identifier a i)) ≡ true → clash-at a b i ≡ some (clash (identifier a i))
-  unfolding clash-at when
-  clash-here i t = rw t refl
+  -- r is what was found of the event at place i
+  module _ (i : ℕ) {r : Bool} (e : r ≡ clashes (event-of a (identifier a i)) (event-of b (identifier a i))) where
+    pub clash-here : r ≡ true → clash-at a b i ≡ some (clash (identifier a i))
+    unfolding clash-at when
+    clash-here t = rw (← e, t) refl
 
-  pub no-clash-here : (i : ℕ) → clashes (event-of a (identifier a i)) (event-of b (identifier a i)) ≡ false → clash-at a b i ≡ none
-  unfolding clash-at when
-  no-clash-here i f = rw f refl
+    pub no-clash-here : r ≡ false → clash-at a b i ≡ none
+    unfolding clash-at when
+    no-clash-here f = rw (← e, f) refl
 
   pub unequal : {x y : ℕ} → x ≡ observer a → y ≡ observer b → (x ≡ y → ⊥) → observers-differ a b ≡ true
   unfolding observers-differ

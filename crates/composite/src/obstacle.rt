@@ -4,14 +4,15 @@ ghost use Prim.Native.Nat.{_<_, _≤_};
 ghost use Rattle.part.specs.Limits.{max-event-kind};
 ghost use Rattle.part.specs.Record.{events, identifier};
 ghost use Rattle.part.specs.Rejections.{Accepted};
-ghost use Rattle.part.specs.Machine.{kind-of, event-of};
+ghost use Rattle.part.specs.Machine.{kind-of, place-or-end, event-of};
+ghost use lib.ListN.{length};
+ghost use Rattle.composite.specs.Joined.{merged};
 ghost use Rattle.composite.specs.Meeting.{clashes};
 ghost use Rattle.composite.specs.Joining.{first-clash, too-large, obstacle};
 ghost use Rattle.composite.specs.Answers.{stops};
 ghost use Rattle.composite.specs.Walk.{meeting};
 use crate::answer::Fit;
 use crate::answer::Obstacle;
-use crate::merge::merge;
 use part::Part;
 
 // What a shared event becomes, by its kinds in the two parts: an internal event, or none.
@@ -33,14 +34,14 @@ fn meeting(i: usize, j: usize) -> usize
     MEETING[i][j]
 }
 
-// The event at place i of a is shared, and clashes.
-fn clash_at(a: &[u8], b: &[u8], i: usize) -> bool
+// The event at place i of a is shared, and clashes. j is its place in b.
+fn clash_at(a: &[u8], b: &[u8], i: usize, j: usize) -> bool
     requires { ⌜ Accepted (now a) ⌝ }
     requires { ⌜ Accepted (now b) ⌝ }
     requires { ⌜ i < events (now a) ⌝ }
+    requires { ⌜ j ≡ place-or-end (now b) (identifier (now a) i) ⌝ }
     ensures { λ r. ⌜ r ≡ clashes (event-of (now (a .entry)) (identifier (now (a .entry)) i)) (event-of (now (b .entry)) (identifier (now (a .entry)) i)) ⌝ }
 {
-    let j = Part::place(b, Part::identifier(a, i));
     if Part::events(b) <= j {
         return false;
     }
@@ -56,30 +57,39 @@ fn first_clash(a: &[u8], b: &[u8]) -> Fit
     ensures { λ r. ⌜ stops r ≡ first-clash (now (a .entry)) (now (b .entry)) ⌝ }
 {
     let m = Part::events(a);
+    let mut near = 0;
     let mut i = 0;
     while i < m {
-        if clash_at(a, b, i) {
-            return Fit::Stopped(Obstacle::Clash(Part::identifier(a, i)));
+        let e = Part::identifier(a, i);
+        let j = Part::place_near(b, near, e);
+        if clash_at(a, b, i, j) {
+            return Fit::Stopped(Obstacle::Clash(e));
+        }
+        if j < Part::events(b) {
+            near = j + 1;
         }
         i += 1;
     }
     Fit::Joins
 }
 
-fn too_large<'a>(a: &'a [u8], b: &'a [u8]) -> bool
+fn too_large(a: &[u8], b: &[u8], count: usize) -> bool
     requires { ⌜ Accepted (now a) ⌝ }
     requires { ⌜ Accepted (now b) ⌝ }
+    requires { ⌜ count ≡ length (merged (now a) (now b)) ⌝ }
     ensures { λ r. ⌜ r ≡ too-large (now (a .entry)) (now (b .entry)) ⌝ }
 {
     if Part::STATES < Part::states(a) * Part::states(b) {
         return true;
     }
-    Part::EVENTS < merge(a, b).count
+    Part::EVENTS < count
 }
 
-pub fn obstacle<'a>(a: &'a [u8], b: &'a [u8]) -> Fit
+// count is the number of their merged entries.
+pub fn obstacle(a: &[u8], b: &[u8], count: usize) -> Fit
     requires { ⌜ Accepted (now a) ⌝ }
     requires { ⌜ Accepted (now b) ⌝ }
+    requires { ⌜ count ≡ length (merged (now a) (now b)) ⌝ }
     ensures { λ r. ⌜ stops r ≡ obstacle (now (a .entry)) (now (b .entry)) ⌝ }
 {
     if Part::observer(a) != Part::observer(b) {
@@ -90,7 +100,7 @@ pub fn obstacle<'a>(a: &'a [u8], b: &'a [u8]) -> Fit
         Fit::Stopped(o) => return Fit::Stopped(o),
         Fit::Joins => {}
     }
-    if too_large(a, b) {
+    if too_large(a, b, count) {
         return Fit::Stopped(Obstacle::TooLarge);
     }
     Fit::Joins

@@ -9,6 +9,7 @@ use crate::writer::write;
 use composite::answer::Fit;
 use composite::answer::Joining;
 use composite::answer::Side;
+use composite::merge::merge;
 use composite::obstacle::obstacle;
 use restrictive::Verdict;
 use restrictive::call::check;
@@ -30,15 +31,16 @@ pub fn join<'a>(a: &'a [u8], b: &'a [u8], out: &mut [u8]) -> Joining
         Verdict::Break(v) => return Joining::Unfit(Side::Second, Verdict::Break(v)),
         Verdict::Pass => {}
     }
-    let fit = obstacle(a, b);
+    let list = merge(a, b);
+    let fit = obstacle(a, b, list.count);
     match fit {
         Fit::Stopped(o) => return Joining::Stopped(o),
         Fit::Joins => {}
     }
-    let size = joined_length(a, b);
+    let size = joined_length(a, b, list.count);
     if out.len() < size {
         return Joining::NoRoom;
     }
-    write(out, a, b);
+    write(out, a, b, &list.identifiers, list.count);
     Joining::Joined(size)
 }

@@ -3,9 +3,10 @@ ghost use mathlib.Core.Path.{_≡_};
 ghost use Prim.Native.Nat.{_+_, _*_, _≤_};
 ghost use lib.ListN.{length};
 ghost use Rattle.words.specs.Laid.{over};
+ghost use Rattle.part.specs.Machine.{place-or-end};
 ghost use Rattle.composite.specs.Meeting.{kind-byte, level-byte};
 ghost use Rattle.composite.specs.Joined.{joined-event};
-ghost use Rattle.join.specs.Pieces.{Joint, Lists, entry-bytes, all-entries};
+ghost use Rattle.join.specs.Pieces.{Joint, Lists, Placed, entry-bytes, all-entries};
 use part::Part;
 use words::le;
 
@@ -15,14 +16,13 @@ struct Sort {
     level: u8,
 }
 
-// Of the event with identifier e: a shared one is internal.
-fn sort_of(a: &[u8], b: &[u8], e: usize) -> Sort
+// Of the event with identifier e, which stands at the places i and j: a shared one is internal.
+fn sort_of(a: &[u8], b: &[u8], e: usize, i: usize, j: usize) -> Sort
     requires { ⌜ Joint (now a) (now b) ⌝ }
+    requires { ⌜ (i ≡ place-or-end (now a) e) × (j ≡ place-or-end (now b) e) ⌝ }
     ensures { λ r. ⌜ r .kind ≡ kind-byte (joined-event (now (a .entry)) (now (b .entry)) e) ⌝ }
     ensures { λ r. ⌜ r .level ≡ level-byte (joined-event (now (a .entry)) (now (b .entry)) e) ⌝ }
 {
-    let i = Part::place(a, e);
-    let j = Part::place(b, e);
     if Part::events(a) <= i {
         if Part::events(b) <= j {
             return Sort { kind: 0, level: 0 };
@@ -44,26 +44,38 @@ fn sort_of(a: &[u8], b: &[u8], e: usize) -> Sort
     }
 }
 
-fn put_entry(out: &mut [u8], at: usize, a: &[u8], b: &[u8], e: usize)
+fn put_entry(out: &mut [u8], at: usize, a: &[u8], b: &[u8], e: usize, i: usize, j: usize)
     requires { ⌜ Joint (now a) (now b) ⌝ }
+    requires { ⌜ (i ≡ place-or-end (now a) e) × (j ≡ place-or-end (now b) e) ⌝ }
     requires { ⌜ at + 4 ≤ length (now out) ⌝ }
     ensures { λ _. ⌜ now (out .exit) ≡ over (now (out .entry)) at (entry-bytes (now (a .entry)) (now (b .entry)) e) ⌝ }
 {
-    let event = sort_of(a, b, e);
+    let event = sort_of(a, b, e, i, j);
     le::put16(out, at, e as u64);
     out[at + 2] = event.kind;
     out[at + 3] = event.level;
 }
 
-pub fn put_entries(out: &mut [u8], at: usize, a: &[u8], b: &[u8], list: &[usize; 64], count: usize)
+// first and second have the places of the listed events in a and in b.
+pub fn put_entries(
+    out: &mut [u8],
+    at: usize,
+    a: &[u8],
+    b: &[u8],
+    list: &[usize; 64],
+    count: usize,
+    first: &[usize; 64],
+    second: &[usize; 64],
+)
     requires { ⌜ Joint (now a) (now b) ⌝ }
     requires { ⌜ Lists (now a) (now b) (now list) count ⌝ }
+    requires { ⌜ Placed (now a) (now list) count (now first) × Placed (now b) (now list) count (now second) ⌝ }
     requires { ⌜ at + 4 * count ≤ length (now out) ⌝ }
     ensures { λ _. ⌜ now (out .exit) ≡ over (now (out .entry)) at (all-entries (now (a .entry)) (now (b .entry))) ⌝ }
 {
     let mut i = 0;
     while i < count {
-        put_entry(out, at + 4 * i, a, b, list[i]);
+        put_entry(out, at + 4 * i, a, b, list[i], first[i], second[i]);
         i += 1;
     }
 }

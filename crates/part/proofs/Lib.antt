@@ -1,6 +1,7 @@
 pub mod Fields
 pub mod Accepted
 pub mod Rejections
+pub mod Strays
 pub mod Rising
 pub mod Ranges
 pub mod Places

@@ -1,22 +1,23 @@
 -- The place of an event and its identifier determine each other, and what the machine has under an identifier stands at its place.
 -- Assumes nothing.
-use Prim.Native.Nat.{ℕ, _+_, _≤_, _<_}
+use Prim.Native.Nat.{ℕ, _+_, _-_, _≤_, _<_}
 use mathlib.Core.Path.{_≡_, refl, sym, ap, _∙_, subst}
 use mathlib.Core.Logic.{_↔_}
 use mathlib.Core.List.{List}
 use mathlib.Core.Option.{Option, none, some}
-use native.Mathlib.Decide.{ℕ-discrete}
+use native.Mathlib.Decide.{decLt, ℕ-discrete}
 use native.Mathlib.Omega.{arith}
 use borrow.Author.Tests.{eq-eqb, ne-eqb}
 use lib.Dec.{T}
 use Rattle.bounded.specs.Search.{first}
-use Rattle.bounded.proofs.Search.{first-more, first-found, first-at, first-hit, first-done}
+use Rattle.bounded.proofs.Search.{first-more, first-nothing, first-found, first-at, first-hit, first-done}
 use Rattle.machine.specs.Machine.{Kind, absent, event}
 use Rattle.words.specs.Sets.{bit}
-use Rattle.part.specs.Record.{events, identifier, event-kind, level, row}
+use Rattle.part.specs.Record.{events, identifier, event-kind, level, row, Rising}
 use Rattle.part.specs.Machine.{kind-of, at-place, place, place-or-end, event-of, Leads}
 use Rattle.part.specs.Theorems.{Places}
 use Rattle.part.proofs.Ranges.{ranges}
+use Rattle.part.proofs.Rising.{rises-le}
 
 module _ (b : List ℕ) (e i : ℕ) where
   at-same : identifier b i ≡ e → at-place b e i ≡ some i
@@ -86,15 +87,33 @@ module _ (b : List ℕ) (e : ℕ) where
   unfolding place
   place-done i q p = q ∙ sym (place-end-none (first-done (at-place b e) (events b) i q p))
 
+  -- ---- where the identifiers rise: what one place tells
+
+  rising-place : Rising b → (i : ℕ) → i < events b → identifier b i ≡ e → place b e ≡ some i
+  unfolding place
+  rising-place up i h q =
+      first-at (at-place b e) (events b) i
+      (record { at = i; below = h; found = at-same b e i q; before = λ j l. at-other b e j (λ p. omega (arith, up j i l h)) })
+
+  pub rising-hit : Rising b → (i : ℕ) → i < events b → identifier b i ≡ e → i ≡ place-or-end b e
+  rising-hit up i h q = sym (place-end-some i (rising-place up i h q))
+
+  -- e lies between the identifiers before the place i and at it
+  pub rising-gap : Rising b → (i : ℕ) → i ≤ events b → (i < events b → e < identifier b i) → (0 < i → identifier b (i - 1) < e)
+      → events b ≡ place-or-end b e
+  unfolding place
+  rising-gap up i h above below =
+      let le = rises-le (identifier b) (events b) up in
+      sym
+      (place-end-none (first-nothing (at-place b e) (events b) (λ j l. at-other b e j (λ q.
+      elim (decLt j i) [
+        | yes n ↦ omega (arith, below (omega arith), le j (i - 1) (omega arith) (omega arith))
+        | no n ↦ omega (arith, above (omega arith), le i j (omega arith) l)
+      ]))))
+
 pub places : Places
-unfolding place
 places b a = record {
-  found = λ i h. first-at (at-place b (identifier b i)) (events b) i (record {
-    at = i;
-    below = h;
-    found = at-same b (identifier b i) i refl;
-    before = λ j l. at-other b (identifier b i) j (λ q. omega (arith, ranges b a .identifiers-rise j i l h));
-  });
+  found = λ i h. rising-place b (identifier b i) (ranges b a .identifiers-rise) i h refl;
   stands = place-stands b;
 }
 

@@ -25,7 +25,7 @@ rises f m step i (suc j) l h =
     (eq-or-lt-of-le (le-of-suc-le-suc l))
 
 module _ (f : ℕ → ℕ) (m : ℕ) (up : Rises f m) where
-  rises-le : (i j : ℕ) → i ≤ j → j < m → f i ≤ f j
+  pub rises-le : (i j : ℕ) → i ≤ j → j < m → f i ≤ f j
   rises-le i j l h = ⊎-elim (λ q. let e = ap f q in omega arith) (λ n. let u = up i j n h in omega arith) (eq-or-lt-of-le l)
 
   -- no earlier number has the same value

@@ -1,6 +1,6 @@
 -- The fields of a part's record, each read off its bytes (document 01, "The part record"). Past the end of the bytes 0 is read, so that each
 -- field is a number for any bytes.
-use Prim.Native.Nat.{ℕ, zero, suc, _+_, _*_, _≤_, max}
+use Prim.Native.Nat.{ℕ, zero, suc, _+_, _*_, _≤_, _<_, max}
 use mathlib.Core.Path.{_≡_}
 use mathlib.Core.List.{List}
 use lib.ListN.{length}
@@ -55,6 +55,10 @@ row-at b i s = 10 + states b + 4 * events b + 8 * (i * states b + s)
 
 unfoldable pub row : List ℕ → ℕ → ℕ → ℕ
 row b i s = number 8 b (row-at b i s)
+
+-- The identifiers rise from place to place.
+abbrev pub Rising : List ℕ → Type 0
+Rising b = (i j : ℕ) → i < j → j < events b → identifier b i < identifier b j
 
 -- What the length of the body has to be: 4 + n + 4m + 8mn.
 unfoldable pub body-size : List ℕ → ℕ

@@ -1,8 +1,9 @@
 // The part type: its limits, and each field of its record (specs/Record.antt).
 ghost use mathlib.Core.Path.{_≡_};
-ghost use Prim.Native.Nat.{_+_, _<_, _≤_, _^_, max};
-ghost use lib.ListN.{length};
-ghost use Rattle.part.specs.Record.{body-length, kind, observer, states, start, events, class, classes-below, entry-at, identifier, event-kind, level, row, Framed};
+ghost use Prim.Native.Nat.{ℕ, _+_, _<_, _≤_, _^_, max};
+ghost use mathlib.Core.Bool.{true};
+ghost use lib.ListN.{length, getD};
+ghost use Rattle.part.specs.Record.{body-length, kind, observer, states, start, events, class, classes-below, entry-at, identifier, event-kind, level, row-at, row, Rising, Framed};
 ghost use Rattle.part.specs.Machine.{place-or-end};
 use words::le;
 
@@ -137,6 +138,45 @@ impl Part {
         i
     }
 
+    // e lies between the identifiers before the place `near` and at it.
+    fn in_gap(b: &[u8], near: usize, e: usize) -> bool
+        requires { ⌜ Framed (now b) ⌝ }
+        requires { ⌜ Rising (now b) ⌝ }
+        ensures { λ r. ⌜ (r ≡ true → events (now (b .entry)) ≡ place-or-end (now (b .entry)) e) ⌝ }
+    {
+        let m = Part::events(b);
+        if m < near {
+            return false;
+        }
+        if near < m {
+            if Part::identifier(b, near) <= e {
+                return false;
+            }
+        }
+        if near == 0 {
+            return true;
+        }
+        Part::identifier(b, near - 1) < e
+    }
+
+    // As `place`, looked for at the place `near` first.
+    pub fn place_near(b: &[u8], near: usize, e: usize) -> usize
+        requires { ⌜ Framed (now b) ⌝ }
+        requires { ⌜ Rising (now b) ⌝ }
+        ensures { λ r. ⌜ r ≡ place-or-end (now (b .entry)) e ⌝ }
+    {
+        let m = Part::events(b);
+        if near < m {
+            if Part::identifier(b, near) == e {
+                return near;
+            }
+        }
+        if Part::in_gap(b, near, e) {
+            return m;
+        }
+        Part::place(b, e)
+    }
+
     pub fn event_kind(b: &[u8], i: usize) -> usize
         requires { ⌜ Framed (now b) ⌝ }
         requires { ⌜ i < events (now b) ⌝ }
@@ -164,5 +204,42 @@ impl Part {
         let n = Part::states(b);
         let at = 10 + n + 4 * Part::events(b) + 8 * (i * n + s);
         le::u64_at(b, at)
+    }
+
+    // Where the rows of the event at place i begin.
+    pub fn rows(b: &[u8], i: usize) -> usize
+        requires { ⌜ Framed (now b) ⌝ }
+        requires { ⌜ i < events (now b) ⌝ }
+        ensures { λ r. ⌜ r ≡ row-at (now (b .entry)) i 0 ⌝ }
+    {
+        let n = Part::states(b);
+        10 + n + 4 * Part::events(b) + 8 * (i * n)
+    }
+
+    // As `row`, from where the event's rows begin.
+    pub fn row_from(b: &[u8], at: usize, i: usize, s: usize) -> u64
+        requires { ⌜ Framed (now b) ⌝ }
+        requires { ⌜ i < events (now b) ⌝ }
+        requires { ⌜ s < states (now b) ⌝ }
+        requires { ⌜ at ≡ row-at (now b) i 0 ⌝ }
+        ensures { λ r. ⌜ r ≡ row (now (b .entry)) i s ⌝ }
+    {
+        le::u64_at(b, at + 8 * s)
+    }
+
+    // Over out: the rows of the event at place i.
+    pub fn copy_rows(out: &mut [u64; 64], b: &[u8], i: usize)
+        requires { ⌜ Framed (now b) ⌝ }
+        requires { ⌜ i < events (now b) ⌝ }
+        ensures { λ _. ⌜ ((s : ℕ) → s < states (now (b .entry)) → getD (now (out .exit)) s 0 ≡ row (now (b .entry)) i s) ⌝ }
+    {
+        let n = Part::states(b);
+        let at = Part::rows(b, i);
+        let rows = &mut out[..];
+        let mut s = 0;
+        while s < n {
+            rows[s] = Part::row_from(b, at, i, s);
+            s += 1;
+        }
     }
 }

@@ -3,7 +3,7 @@ ghost use mathlib.Core.Path.{_≡_};
 ghost use Prim.Native.Nat.{_+_, _<_};
 ghost use mathlib.Core.Bool.{false};
 ghost use Rattle.part.specs.Record.{states, events, Framed};
-ghost use Rattle.part.specs.Rejections.{too-short, wrong-length, wrong-kind, out-of-range, wrong-size, misnumbered, falls-at, falling, unknown-at, unknown-kind, misordered, strays-at, row-strays, stray-bit, rejection};
+ghost use Rattle.part.specs.Rejections.{too-short, wrong-length, wrong-kind, out-of-range, wrong-size, misnumbered, falls-at, falling, unknown-at, unknown-kind, misordered, row-strays, stray-bit, rejection};
 ghost use Rattle.part.specs.Answers.{number-of, says};
 use crate::answer::Rejection;
 use crate::answer::Screening;
@@ -155,35 +155,30 @@ fn misordered(b: &[u8]) -> bool
     unknown_kind(b)
 }
 
-fn strays_at(b: &[u8], i: usize, s: usize) -> bool
-    requires { ⌜ Framed (now b) ⌝ }
-    requires { ⌜ i < events (now b) ⌝ }
-    requires { ⌜ s < states (now b) ⌝ }
-    ensures { λ r. ⌜ r ≡ strays-at (now (b .entry)) i s ⌝ }
-{
-    set::exceeds(Part::states(b), Part::row(b, i, s))
-}
-
+// Some row of the event has a bit at n or above: the union of its rows has one.
 fn row_strays(b: &[u8], i: usize) -> bool
     requires { ⌜ Framed (now b) ⌝ }
     requires { ⌜ i < events (now b) ⌝ }
     ensures { λ r. ⌜ r ≡ row-strays (now (b .entry)) i ⌝ }
 {
     let n = Part::states(b);
+    let mut found = 0;
     let mut s = 0;
     while s < n {
-        if strays_at(b, i, s) {
-            return true;
-        }
+        found = set::union(found, Part::row(b, i, s));
         s += 1;
     }
-    false
+    set::exceeds(n, found)
 }
 
+// A row has no bit above 63.
 fn stray_bit(b: &[u8]) -> bool
     requires { ⌜ Framed (now b) ⌝ }
     ensures { λ r. ⌜ r ≡ stray-bit (now (b .entry)) ⌝ }
 {
+    if Part::states(b) == Part::STATES {
+        return false;
+    }
     let m = Part::events(b);
     let mut i = 0;
     while i < m {

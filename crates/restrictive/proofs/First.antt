@@ -14,7 +14,8 @@ use Rattle.bounded.proofs.Search.{first-none, first-nothing, first-found, first
 use Rattle.part.specs.Record.{states, events, identifier}
 use Rattle.part.proofs.Rising.{Rises}
 use Rattle.restrictive.specs.Tests.{broken}
-use Rattle.restrictive.specs.Verdict.{Violation, rule-at, violation-at, state-violation, event-violation, rule-violation, first-violation}
+use Rattle.relations.specs.Relations.{rule-at}
+use Rattle.restrictive.specs.Verdict.{Violation, violation-at, state-violation, event-violation, rule-violation, first-violation}
 use Rattle.restrictive.specs.Theorems.{Before, smaller, equal, in-order}
 use Rattle.restrictive.proofs.Truth.{Below}
 

@@ -1,12 +1,11 @@
 pub mod Truth
-pub mod Roles
-pub mod SilentRows
-pub mod ClassRows
 pub mod Scans
 pub mod Offers
-pub mod Answering
 pub mod SilentReach
 pub mod SilentWithin
+pub mod Answering
+pub mod Sameness
+pub mod Turns
 pub mod Reflect
 pub mod First
 pub mod Theorems

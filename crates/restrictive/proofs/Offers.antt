@@ -11,13 +11,15 @@ use lib.Dec.{eqb}
 use lib.ListN.{getD}
 use borrow.Author.Tests.{eqb-true, eq-eqb}
 use Rattle.bounded.specs.Search.{any, all, first}
-use Rattle.bounded.proofs.Search.{any-at, all-at, all-intro, any-found, any-none, first-nothing, first-hit, same-truth, is-false, is-true, true-not-false, imp-elim, imp-intro, not-refuted, true-or-false, and-now, and-right}
+use Rattle.bounded.proofs.Search.{all-at, all-intro, any-found, any-none, first-nothing, first-hit, same-truth, is-false, is-true, true-not-false, imp-elim, imp-intro, not-refuted, true-or-false, and-right}
 use Rattle.machine.specs.Rules.{Rule, rule-2}
 use Rattle.part.specs.Record.{states, class, identifier, row}
-use Rattle.restrictive.specs.Tests.{role-at, leads, same-class, asks, answers, broken}
-use Rattle.restrictive.specs.Verdict.{Violation, rule-at, violation-at, state-violation, event-violation}
-use Rattle.restrictive.specs.Sets.{concerns, led-to, reached, offer, permits, Asked, Weighed}
-use Rattle.words.specs.Sets.{bit, Rows, intersection}
+use Rattle.relations.specs.Relations.{role-at, leads, same-class, rule-at}
+use Rattle.restrictive.specs.Tests.{asks, answers, broken}
+use Rattle.restrictive.specs.Verdict.{Violation, violation-at, state-violation, event-violation}
+use Rattle.relations.specs.Sets.{concerns}
+use Rattle.restrictive.specs.Sets.{led-to, reached, offer, permits, Asked, Weighed, Offers}
+use Rattle.words.specs.Sets.{bit, intersection}
 use Rattle.words.proofs.Sets.{bit-intersection, bit-zero, all-below}
 
 -- ---- one violation
@@ -68,7 +70,7 @@ not-led b (suc (suc (suc zero))) i s t u h l a e = rw (a, e)
 not-led b (suc (suc (suc (suc zero)))) i s t u h l a e = rw (a, e)
 not-led b (suc (suc (suc (suc (suc k))))) i s t u h l a e = absurd (omega arith)
 
-eqb-swap : (m n : ℕ) → eqb m n ≡ eqb n m
+pub eqb-swap : (m n : ℕ) → eqb m n ≡ eqb n m
 eqb-swap m n = same-truth (eqb m n) (eqb n m) (λ e. eq-eqb n m (sym (eqb-true m n e))) (λ e. eq-eqb m n (sym (eqb-true n m e)))
 
 -- Rule 2: t has another class than s.
@@ -89,12 +91,12 @@ permits-own b i s c h =
     imp-intro (eqb (class b u) x) (eqb (class b u) c) (λ q. eq-eqb (class b u) c (eqb-true (class b u) x q ∙ eqb-true x c e))))
 
 -- A step to a class that is permitted breaks nothing.
-pub permitted : (b : List ℕ) (k i s t u : ℕ) → 1 ≤ k → k < 5 → s < states b → u < states b → Asked b k i s t → permits b (rule-at k) i s (class b t) ≡ true
+pub permits-step : (b : List ℕ) (k i s t u : ℕ) → 1 ≤ k → k < 5 → s < states b → u < states b → Asked b k i s t → permits b (rule-at k) i s (class b t) ≡ true
     → broken b (rule-at k) i s t u ≡ false
 unfolding permits rule-at
-permitted b zero i s t u h l hs hu a p = absurd (omega arith)
-permitted b (suc zero) i s t u h l hs hu a p = broken-leaving b i s t u a ∙ ap not (sym (permits-own b i s (class b t) hs) ∙ p)
-permitted b (suc (suc k)) i s t u h l hs hu a p =
+permits-step b zero i s t u h l hs hu a p = absurd (omega arith)
+permits-step b (suc zero) i s t u h l hs hu a p = broken-leaving b i s t u a ∙ ap not (sym (permits-own b i s (class b t) hs) ∙ p)
+permits-step b (suc (suc k)) i s t u h l hs hu a p =
     broken-asked b (suc (suc k)) i s t u (omega arith) l a
     ∙ not-refuted (same-class b u s) (offer b (rule-at (suc (suc k))) i u (class b t)) (imp-elim (same-class b u s) (offer b (rule-at (suc (suc k))) i u (class b t)) (all-at (λ v. not (same-class b v s) || offer b (rule-at (suc (suc k))) i v (class b t)) (states b) p u hu))
 
@@ -126,49 +128,36 @@ none-by b k i l e = first-nothing (state-violation b k i) (states b) (λ s h. no
 
 -- ---- the sets say where a rule is broken
 
-module _ (b : List ℕ) (k i : ℕ) (rows offers allowed : List ℕ) (w : Weighed b k i rows offers allowed) where
+module _ (b : List ℕ) (k i : ℕ) (permitted offers : List ℕ) (w : Weighed b k i permitted offers) where
   -- the event does not lead from s to t
-  pub no-step : (s t : ℕ) → s < states b → bit (getD rows s 0) t ≡ false → first (states b) (violation-at b k i s t) ≡ none
-  no-step s t h e = none-there b k i s t (λ u l. not-led b k i s t u (w .later) (w .last) (w .speaks) (sym (w .sets .leading s h t) ∙ e))
+  pub no-step : (s t : ℕ) → leads b i s t ≡ false → first (states b) (violation-at b k i s t) ≡ none
+  no-step s t e = none-there b k i s t (λ u l. not-led b k i s t u (w .later) (w .last) (w .speaks) e)
 
-  asked : (s t : ℕ) → s < states b → bit (getD rows s 0) t ≡ true → Asked b k i s t
-  asked s t h e = (w .speaks, sym (w .sets .leading s h t) ∙ e)
-
-  -- it leads there, and the class of t is permitted
-  pub allowed-step : (s t : ℕ) → s < states b → t < states b → bit (getD rows s 0) t ≡ true → bit (getD allowed s 0) (class b t) ≡ true
+  -- it leads there, and may
+  pub permitted-step : (s t : ℕ) → s < states b → t < states b → leads b i s t ≡ true → bit (getD permitted s 0) t ≡ true
       → first (states b) (violation-at b k i s t) ≡ none
-  allowed-step s t h l e p =
-      none-there b k i s t (λ u m.
-      permitted b k i s t u (w .later) (w .last) h m (asked s t h e) (sym (w .sets .permitting s h (class b t) (w .below t l)) ∙ p))
+  permitted-step s t h l e p =
+      none-there b k i s t (λ u m. permits-step b k i s t u (w .later) (w .last) h m (w .speaks, e) (sym (w .permitting s h t l) ∙ p))
 
-  -- all classes that it leads to from s are permitted
-  pub all-allowed : (led : List ℕ) → Rows (states b) led (led-to b i) → (s : ℕ) → s < states b → intersection (getD led s 0) (getD allowed s 0) ≡ getD led s 0 → state-violation b k i s ≡ none
-  unfolding state-violation led-to
-  all-allowed led to s h e =
+  -- it leads from s only to states that it may lead to
+  pub all-permitted : (s x : ℕ) → s < states b → x ≡ row b i s → intersection x (getD permitted s 0) ≡ x → state-violation b k i s ≡ none
+  unfolding state-violation leads
+  all-permitted s x h from e =
       first-nothing (λ t. first (states b) (violation-at b k i s t)) (states b) (λ t l.
-      ⊎-elim
-      (λ p. allowed-step s t h l p (in-allowed t l p))
-      (λ p. no-step s t h p)
-      (true-or-false (bit (getD rows s 0) t)))
+      ⊎-elim (λ p. permitted-step s t h l p (within t p)) (λ p. no-step s t p) (true-or-false (leads b i s t)))
     where
-      in-led : (t : ℕ) → t < states b → bit (getD rows s 0) t ≡ true → bit (getD led s 0) (class b t) ≡ true
-      in-led t l p =
-          to s h (class b t)
-          ∙ any-at (λ v. leads b i s v && eqb (class b v) (class b t)) (states b) t l
-          (and-now (leads b i s t) (eqb (class b t) (class b t)) (sym (w .sets .leading s h t) ∙ p) ∙ eq-eqb (class b t) (class b t) refl)
-
-      in-allowed : (t : ℕ) → t < states b → bit (getD rows s 0) t ≡ true → bit (getD allowed s 0) (class b t) ≡ true
-      in-allowed t l p =
-          let both = sym (bit-intersection (getD led s 0) (getD allowed s 0) (class b t)) ∙ ap (λ (x : ℕ). bit x (class b t)) e ∙ in-led t l p in
-          and-right (bit (getD led s 0) (class b t)) (bit (getD allowed s 0) (class b t)) both
+      within : (t : ℕ) → bit (row b i s) t ≡ true → bit (getD permitted s 0) t ≡ true
+      within t p =
+          and-right (bit x t) (bit (getD permitted s 0) t)
+          (sym (bit-intersection x (getD permitted s 0) t) ∙ ap (λ (y : ℕ). bit y t) (e ∙ from) ∙ p)
 
   -- rule 2: it leads there, and t has another class
-  pub leaving : k ≡ 1 → 1 ≤ states b → (s t : ℕ) → s < states b → t < states b → bit (getD rows s 0) t ≡ true → bit (getD allowed s 0) (class b t) ≡ false
+  pub leaving : k ≡ 1 → 1 ≤ states b → (s t : ℕ) → s < states b → t < states b → leads b i s t ≡ true → bit (getD permitted s 0) t ≡ false
       → first (states b) (violation-at b k i s t) ≡ some (the-violation b k i s t 0)
-  leaving e n s t h l p q = any-other b k i s t n (leaves-class b k i s t 0 e h (asked s t h p) (sym (w .sets .permitting s h (class b t) (w .below t l)) ∙ q))
+  leaving e n s t h l p q = any-other b k i s t n (leaves-class b k i s t 0 e h (w .speaks, p) (sym (w .permitting s h t l) ∙ q))
 
 -- The test of the code for rules 3 to 5 is the rule's.
-pub broken-by-set : (b : List ℕ) (k i s t u : ℕ) (offers : List ℕ) → 2 ≤ k → k < 5 → Asked b k i s t → Rows (states b) offers (offer b (rule-at k) i)
+pub broken-by-set : (b : List ℕ) (k i s t u : ℕ) (offers : List ℕ) → 2 ≤ k → k < 5 → Asked b k i s t → Offers b k i offers
     → u < states b → broken b (rule-at k) i s t u ≡ (same-class b u s && not (bit (getD offers u 0) (class b t)))
 broken-by-set b k i s t u offers h l a o hu =
     broken-asked b k i s t u h l a ∙ ap (λ (p : Bool). same-class b u s && not p) (sym (o u hu (class b t)))

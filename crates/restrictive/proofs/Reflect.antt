@@ -15,7 +15,8 @@ use Rattle.part.specs.Record.{observer, states, class}
 use Rattle.part.specs.Rejections.{Accepted}
 use Rattle.part.specs.Machine.{State, place, machine, observation}
 use Rattle.part.proofs.Places.{event-none}
-use Rattle.restrictive.specs.Tests.{role-at, leads, same-class, reach, around, asks, answers, broken}
+use Rattle.relations.specs.Relations.{role-at, leads, same-class, reach}
+use Rattle.restrictive.specs.Tests.{around, asks, answers, broken}
 use Rattle.restrictive.proofs.Truth.{eqb-iff, and-iff, and-three-iff, not-iff, any-iff, any-both-iff}
 use Rattle.restrictive.proofs.SilentReach.{role-iff, leads-iff, reach-silent}
 

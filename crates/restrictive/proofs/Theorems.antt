@@ -15,7 +15,8 @@ use Rattle.part.proofs.Accepted.{skip, hit, rejection-none}
 use Rattle.part.proofs.Places.{places}
 use Rattle.part.proofs.Ranges.{ranges}
 use Rattle.restrictive.specs.Tests.{answers}
-use Rattle.restrictive.specs.Verdict.{Violation, pass, refused, rule-at, first-violation, by-rules, after-rejection, breaks, verdict}
+use Rattle.relations.specs.Relations.{rule-at}
+use Rattle.restrictive.specs.Verdict.{Violation, pass, refused, first-violation, by-rules, after-rejection, breaks, verdict}
 use lib.ListN.{getD}
 use Rattle.restrictive.specs.Theorems.{
   PassesExactly,

@@ -9,7 +9,7 @@ use Rattle.part.specs.Record.{states, row, Framed}
 use Rattle.part.specs.Rejections.{rejection}
 use Rattle.part.proofs.Accepted.{rejection-none}
 use Rattle.part.proofs.Ranges.{ranges, frame, row-within}
-use Rattle.restrictive.specs.Sets.{RowsWithin, ClassesBelow}
+use Rattle.relations.specs.Sets.{RowsWithin, ClassesBelow}
 use Rattle.restrictive.specs.Verdict.{Violation, refused, by-rules, after-rejection, first-violation, verdict}
 
 pub refused-verdict : (b : List ℕ) (k : ℕ) → rejection b ≡ some k → verdict b ≡ refused k

@@ -10,8 +10,9 @@ use Rattle.level.specs.Level.{rank, at-or-below, low}
 use Rattle.part.specs.Record.{observer}
 use Rattle.part.specs.Computed.{rejected-with}
 use Rattle.part.specs.Machine.{kind-of}
-use Rattle.restrictive.specs.Tests.{role-at, leads, same-class, silent-step, via, reach, around, asks, answers, broken}
-use Rattle.restrictive.specs.Verdict.{Violation, Verdict, pass, refused, breaks, rule-at, violation-at, state-violation, event-violation, rule-violation, first-violation, by-rules, after-rejection, verdict}
+use Rattle.relations.specs.Relations.{role-at, leads, same-class, silent-step, via, reach, rule-at}
+use Rattle.restrictive.specs.Tests.{around, asks, answers, broken}
+use Rattle.restrictive.specs.Verdict.{Violation, Verdict, pass, refused, breaks, violation-at, state-violation, event-violation, rule-violation, first-violation, by-rules, after-rejection, verdict}
 
 -- The verdict, computed.
 unfoldable pub judged : List ℕ → Verdict

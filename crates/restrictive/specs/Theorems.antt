@@ -11,7 +11,7 @@ use Rattle.machine.specs.Noninterference.{Noninterfering}
 use Rattle.part.specs.Record.{states}
 use Rattle.part.specs.Rejections.{Condition, conditions, Accepted}
 use Rattle.part.specs.Machine.{State, machine, observation}
-use Rattle.restrictive.specs.Tests.{reach}
+use Rattle.relations.specs.Relations.{reach}
 use Rattle.restrictive.specs.Verdict.{Violation, pass, refused, breaks, verdict}
 
 -- A record passes exactly if no rejection applies to it and its machine is restrictive with its own partition (demand 2).

@@ -5,9 +5,9 @@ use mathlib.Core.Bool.{cond}
 use mathlib.Core.List.{List}
 use mathlib.Core.Option.{Option, none, some}
 use Rattle.bounded.specs.Search.{first}
-use Rattle.machine.specs.Rules.{Rule, rule-1, rule-2, rule-3, rule-4, rule-5}
 use Rattle.part.specs.Record.{states, events, identifier}
 use Rattle.part.specs.Rejections.{rejection}
+use Rattle.relations.specs.Relations.{rule-at}
 use Rattle.restrictive.specs.Tests.{broken}
 
 -- A violation (document 01: a break): rule, identifier, s, t, u.
@@ -22,14 +22,6 @@ pub data Verdict : Type 0 where
   pass : Verdict
   refused : ℕ → Verdict
   breaks : Violation → Verdict
-
--- The rules in order, from 0, and their numbers.
-unfoldable pub rule-at : ℕ → Rule
-rule-at zero = rule-1
-rule-at (suc zero) = rule-2
-rule-at (suc (suc zero)) = rule-3
-rule-at (suc (suc (suc zero))) = rule-4
-rule-at (suc (suc (suc (suc k)))) = rule-5
 
 -- The violation of a rule by the event at place i at s, t, u, where it is one.
 unfoldable pub violation-at : List ℕ → ℕ → ℕ → ℕ → ℕ → ℕ → Option Violation

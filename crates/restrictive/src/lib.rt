@@ -1,10 +1,8 @@
 // Check: the silent closure, the classes that states can answer with, the five rules, and the verdict on a record.
 pub mod answer;
 pub mod call;
-mod classes;
-mod event;
+mod naming;
 mod rules;
-mod silent;
 
 pub use answer::Verdict;
 pub use answer::Violation;

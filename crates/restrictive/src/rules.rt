@@ -1,270 +1,236 @@
-// The first violation of a rule: the sets say where there is one, and only there it is searched for.
+// The first violation of the rules. Rules 2 and 4 permit an event the same states whatever the event is; rules 3 and 5 make sets for each event.
 ghost use mathlib.Core.Path.{_≡_};
-ghost use Prim.Native.Nat.{suc, _<_, _≤_};
-ghost use mathlib.Core.Bool.{true, false, not, _&&_};
-ghost use lib.ListN.{getD};
+ghost use Prim.Native.Nat.{ℕ, _<_, _≤_};
+ghost use mathlib.Core.Bool.{true, false};
+ghost use mathlib.Core.Option.{none};
+ghost use lib.ListN.{getD, replicate};
 ghost use Rattle.bounded.specs.Search.{first};
-ghost use Rattle.part.specs.Record.{states, events, class, identifier, Framed};
-ghost use Rattle.restrictive.specs.Tests.{role-at, same-class};
-ghost use Rattle.restrictive.specs.Sets.{concerns, ClassesBelow, RowsWithin, RecordSets, Weighed, led-to, offer, Asked, Offered, Permitted};
-ghost use Rattle.restrictive.specs.Verdict.{rule-at, violation-at, state-violation, event-violation, rule-violation, first-violation};
-ghost use Rattle.restrictive.specs.Answers.{named, shows};
-ghost use Rattle.words.specs.Sets.{bit, Rows};
+ghost use Rattle.part.specs.Record.{states, events, Framed};
+ghost use Rattle.words.specs.Sets.{Rows};
+ghost use Rattle.relations.specs.Relations.{role-at, rule-at};
+ghost use Rattle.relations.specs.Sets.{concerns, ClassesBelow, RowsWithin, Spoken, Owns};
+ghost use Rattle.restrictive.specs.Sets.{Offers, Permitted, reached, Direct, Around};
+ghost use Rattle.restrictive.specs.Verdict.{event-violation, rule-violation, first-violation};
+ghost use Rattle.restrictive.specs.Answers.{shows};
 use crate::answer::Found;
-use crate::answer::Violation;
-use crate::classes;
-use crate::event;
-use crate::silent::closure;
+use crate::naming;
 use part::Part;
+use relations::classes;
+use relations::event;
+use relations::silent::closure;
 use words::set;
 
-// A violation of rule k + 1 by the event at place i.
-fn violation(b: &[u8], k: usize, i: usize, s: usize, t: usize, u: usize) -> Violation
-    requires { ⌜ Framed (now b) ⌝ }
-    requires { ⌜ i < events (now b) ⌝ }
-    requires { ⌜ k < 5 ⌝ }
-    ensures { λ r. ⌜ named r ≡ record { rule = suc k; event = identifier (now (b .entry)) i; s = s; t = t; u = u } ⌝ }
-{
-    Violation {
-        rule: k + 1,
-        event: Part::identifier(b, i),
-        s,
-        t,
-        u,
-    }
-}
-
-fn same_class(b: &[u8], s: usize, t: usize) -> bool
-    requires { ⌜ Framed (now b) ⌝ }
-    requires { ⌜ (s < states (now b)) × (t < states (now b)) ⌝ }
-    ensures { λ r. ⌜ r ≡ same-class (now (b .entry)) s t ⌝ }
-{
-    Part::class(b, s) == Part::class(b, t)
-}
-
-// u has the class of s and does not offer the class of t.
-fn fails(b: &[u8], s: usize, t: usize, u: usize, offers: &[u64; 64]) -> bool
-    requires { ⌜ Framed (now b) ⌝ }
-    requires { ⌜ ClassesBelow (now b) ⌝ }
-    requires { ⌜ (s < states (now b)) × (t < states (now b)) × (u < states (now b)) ⌝ }
-    ensures { λ r. ⌜ r ≡ (same-class (now (b .entry)) u s && not (bit (getD (now (offers .entry)) u 0) (class (now (b .entry)) t))) ⌝ }
-{
-    if same_class(b, u, s) {
-        return !set::contains(offers[u], Part::class(b, t));
-    }
-    false
-}
-
-// The first u at which rules 3 to 5 are broken at s, t.
-fn other(b: &[u8], k: usize, i: usize, s: usize, t: usize, offers: &[u64; 64]) -> Found
-    requires { ⌜ Framed (now b) ⌝ }
-    requires { ⌜ ClassesBelow (now b) ⌝ }
-    requires { ⌜ (i < events (now b)) × (s < states (now b)) × (t < states (now b)) ⌝ }
-    requires { ⌜ (2 ≤ k) × (k < 5) ⌝ }
-    requires { ⌜ Asked (now b) k i s t × Rows (states (now b)) (now offers) (offer (now b) (rule-at k) i) ⌝ }
-    ensures { λ r. ⌜ shows r ≡ first (states (now (b .entry))) (violation-at (now (b .entry)) k i s t) ⌝ }
-{
-    let n = Part::states(b);
-    let mut u = 0;
-    while u < n {
-        if fails(b, s, t, u, offers) {
-            return Found::At(violation(b, k, i, s, t, u));
-        }
-        u += 1;
-    }
-    Found::Nothing
-}
-
-// The first violation at s, t: none where the event does not lead there or the class of t is permitted.
-fn at_target(
-    b: &[u8],
-    k: usize,
-    i: usize,
-    s: usize,
-    t: usize,
-    rows: &[u64; 64],
-    offers: &[u64; 64],
-    allowed: &[u64; 64],
-) -> Found
-    requires { ⌜ Weighed (now b) k i (now rows) (now offers) (now allowed) ⌝ }
-    requires { ⌜ (s < states (now b)) × (t < states (now b)) ⌝ }
-    ensures { λ r. ⌜ shows r ≡ first (states (now (b .entry))) (violation-at (now (b .entry)) k i s t) ⌝ }
-{
-    if !set::contains(rows[s], t) {
-        return Found::Nothing;
-    }
-    if set::contains(allowed[s], Part::class(b, t)) {
-        return Found::Nothing;
-    }
-    if k == 1 {
-        return Found::At(violation(b, k, i, s, t, 0));
-    }
-    other(b, k, i, s, t, offers)
-}
-
-// The first violation at s: none where every class that the event leads to is permitted.
-fn at_state(
-    b: &[u8],
-    k: usize,
-    i: usize,
-    s: usize,
-    rows: &[u64; 64],
-    led: &[u64; 64],
-    offers: &[u64; 64],
-    allowed: &[u64; 64],
-) -> Found
-    requires { ⌜ Weighed (now b) k i (now rows) (now offers) (now allowed) ⌝ }
-    requires { ⌜ s < states (now b) ⌝ }
-    requires { ⌜ Rows (states (now b)) (now led) (led-to (now b) i) ⌝ }
-    ensures { λ r. ⌜ shows r ≡ state-violation (now (b .entry)) k i s ⌝ }
-{
-    let to = led[s];
-    if set::intersection(to, allowed[s]) == to {
-        return Found::Nothing;
-    }
-    let n = Part::states(b);
-    let mut t = 0;
-    while t < n {
-        let found = at_target(b, k, i, s, t, rows, offers, allowed);
-        match found {
-            Found::At(_) => return found,
-            Found::Nothing => {}
-        }
-        t += 1;
-    }
-    Found::Nothing
-}
-
-// The first violation of rules 2 to 5 by the event.
-fn by_sets(
-    b: &[u8],
-    k: usize,
-    i: usize,
-    rows: &[u64; 64],
-    led: &[u64; 64],
-    offers: &[u64; 64],
-    allowed: &[u64; 64],
-) -> Found
-    requires { ⌜ Weighed (now b) k i (now rows) (now offers) (now allowed) ⌝ }
-    requires { ⌜ Rows (states (now b)) (now led) (led-to (now b) i) ⌝ }
-    ensures { λ r. ⌜ shows r ≡ event-violation (now (b .entry)) k i ⌝ }
-{
-    let n = Part::states(b);
-    let mut s = 0;
-    while s < n {
-        let found = at_state(b, k, i, s, rows, led, offers, allowed);
-        match found {
-            Found::At(_) => return found,
-            Found::Nothing => {}
-        }
-        s += 1;
-    }
-    Found::Nothing
-}
-
-// The first violation of rule 1 by the event: a state with no step.
-fn by_row(b: &[u8], i: usize) -> Found
+// Rule 1. `inputs` is the set of the events that it speaks of.
+fn rule_1(b: &[u8], inputs: u64) -> Found
     requires { ⌜ Framed (now b) ⌝ }
     requires { ⌜ RowsWithin (now b) ⌝ }
-    requires { ⌜ i < events (now b) ⌝ }
-    requires { ⌜ concerns (rule-at 0) (role-at (now b) i) ≡ true ⌝ }
-    ensures { λ r. ⌜ shows r ≡ event-violation (now (b .entry)) 0 i ⌝ }
+    requires { ⌜ Spoken (now b) 0 inputs ⌝ }
+    ensures { λ r. ⌜ shows r ≡ rule-violation (now (b .entry)) 0 ⌝ }
 {
-    let n = Part::states(b);
-    let mut s = 0;
-    while s < n {
-        if Part::row(b, i, s) == 0 {
-            return Found::At(violation(b, 0, i, s, 0, 0));
+    let mut rest = inputs;
+    while rest != 0 {
+        let found = naming::by_row(b, set::lowest(rest));
+        match found {
+            Found::At(_) => return found,
+            Found::Nothing => {}
         }
-        s += 1;
+        rest = set::drop_lowest(rest);
     }
     Found::Nothing
 }
 
-// The classes that each state offers under rules 2 to 5.
-fn offers_of(
-    n: usize,
-    k: usize,
-    rows: &[u64; 64],
-    led: &[u64; 64],
-    closure: &[u64; 64],
-    classes: &[u64; 64],
-    own: &[u64; 64],
-) -> [u64; 64]
-    requires { ⌜ n ≤ 64 ⌝ }
-    ensures { λ r. ⌜ Offered n k (now (rows .entry)) (now (led .entry)) (now (closure .entry)) (now (classes .entry)) (now (own .entry)) r ⌝ }
-{
-    if k == 1 {
-        return *own;
-    }
-    if k == 2 {
-        return *led;
-    }
-    if k == 3 {
-        return *classes;
-    }
-    let after = set::gather_each(n, rows, classes);
-    set::gather_each(n, closure, &after)
-}
-
-fn allowed_of(b: &[u8], k: usize, offers: &[u64; 64]) -> [u64; 64]
+// A rule by which the states that an event may lead to are the same for all events.
+fn by_fixed(b: &[u8], k: usize, spoken: u64, permitted: &[u64; 64], offers: &[u64; 64]) -> Found
     requires { ⌜ Framed (now b) ⌝ }
     requires { ⌜ ClassesBelow (now b) ⌝ }
-    ensures { λ r. ⌜ Permitted (now (b .entry)) k (now (offers .entry)) r ⌝ }
+    requires { ⌜ (1 ≤ k) × (k < 5) ⌝ }
+    requires { ⌜ Spoken (now b) k spoken ⌝ }
+    requires { ⌜ ((i : ℕ) → Permitted (now b) k i (now permitted)) ⌝ }
+    requires { ⌜ (2 ≤ k → (i : ℕ) → Offers (now b) k i (now offers)) ⌝ }
+    ensures { λ r. ⌜ shows r ≡ rule-violation (now (b .entry)) k ⌝ }
 {
-    if k == 1 {
-        return *offers;
+    let mut rest = spoken;
+    while rest != 0 {
+        let found = naming::by_sets(b, k, set::lowest(rest), permitted, offers);
+        match found {
+            Found::At(_) => return found,
+            Found::Nothing => {}
+        }
+        rest = set::drop_lowest(rest);
     }
-    classes::allowed(b, offers)
+    Found::Nothing
 }
 
-// The first violation of rule k + 1 by the event at place i.
+// The first violation by an event, with the classes that each state offers: none where the states of a class offer the same.
+fn by_offers(b: &[u8], k: usize, i: usize, offers: &[u64; 64], room: &mut [u64; 64]) -> Found
+    requires { ⌜ Framed (now b) ⌝ }
+    requires { ⌜ ClassesBelow (now b) ⌝ }
+    requires { ⌜ (2 ≤ k) × (k < 5) ⌝ }
+    requires { ⌜ i < events (now b) ⌝ }
+    requires { ⌜ concerns (rule-at k) (role-at (now b) i) ≡ true ⌝ }
+    requires { ⌜ Offers (now b) k i (now offers) ⌝ }
+    ensures { λ r. ⌜ shows r ≡ event-violation (now (b .entry)) k i ⌝ }
+{
+    if classes::even(b, offers, room) {
+        return Found::Nothing;
+    }
+    classes::put_agreed(room, b, offers);
+    naming::by_sets(b, k, i, room, offers)
+}
+
+// Over out: the classes that each state offers at the event, from a table by state; with silent steps before it from the closure.
+fn put_offers(
+    out: &mut [u64; 64],
+    b: &[u8],
+    k: usize,
+    i: usize,
+    silently: bool,
+    closure: &[u64; 64],
+    table: &[u64; 64],
+    room: &mut [u64; 64],
+)
+    requires { ⌜ Framed (now b) ⌝ }
+    requires { ⌜ i < events (now b) ⌝ }
+    requires { ⌜ (silently ≡ false → Direct (now b) k (now table)) ⌝ }
+    requires { ⌜ (silently ≡ true → Around (now b) k (now closure) (now table)) ⌝ }
+    ensures { λ _. ⌜ Offers (now (b .entry)) k i (now (out .exit)) ⌝ }
+{
+    if silently {
+        event::look_up(room, b, i, table);
+        set::gather_over(out, Part::states(b), closure, room);
+    } else {
+        event::look_up(out, b, i, table);
+    }
+}
+
+// A rule by which the states offer classes that the event decides.
 fn by_event(
     b: &[u8],
     k: usize,
-    i: usize,
+    spoken: u64,
+    silently: bool,
     closure: &[u64; 64],
-    classes: &[u64; 64],
-    own: &[u64; 64],
+    table: &[u64; 64],
+    room: &mut [u64; 64],
+    offers: &mut [u64; 64],
 ) -> Found
     requires { ⌜ Framed (now b) ⌝ }
-    requires { ⌜ RowsWithin (now b) × ClassesBelow (now b) ⌝ }
-    requires { ⌜ (i < events (now b)) × (k < 5) ⌝ }
-    requires { ⌜ RecordSets (now b) (now closure) (now classes) (now own) ⌝ }
-    ensures { λ r. ⌜ shows r ≡ event-violation (now (b .entry)) k i ⌝ }
-{
-    if !event::concerned(b, k, i) {
-        return Found::Nothing;
-    }
-    if k == 0 {
-        return by_row(b, i);
-    }
-    let n = Part::states(b);
-    let rows = event::rows(b, i);
-    let led = set::gather_each(n, &rows, own);
-    let offers = offers_of(n, k, &rows, &led, closure, classes, own);
-    let allowed = allowed_of(b, k, &offers);
-    by_sets(b, k, i, &rows, &led, &offers, &allowed)
-}
-
-fn by_rule(b: &[u8], k: usize, closure: &[u64; 64], classes: &[u64; 64], own: &[u64; 64]) -> Found
-    requires { ⌜ Framed (now b) ⌝ }
-    requires { ⌜ RowsWithin (now b) × ClassesBelow (now b) ⌝ }
-    requires { ⌜ k < 5 ⌝ }
-    requires { ⌜ RecordSets (now b) (now closure) (now classes) (now own) ⌝ }
+    requires { ⌜ ClassesBelow (now b) ⌝ }
+    requires { ⌜ (2 ≤ k) × (k < 5) ⌝ }
+    requires { ⌜ Spoken (now b) k spoken ⌝ }
+    requires { ⌜ (silently ≡ false → Direct (now b) k (now table)) ⌝ }
+    requires { ⌜ (silently ≡ true → Around (now b) k (now closure) (now table)) ⌝ }
     ensures { λ r. ⌜ shows r ≡ rule-violation (now (b .entry)) k ⌝ }
 {
-    let m = Part::events(b);
-    let mut i = 0;
-    while i < m {
-        let found = by_event(b, k, i, closure, classes, own);
+    let mut rest = spoken;
+    while rest != 0 {
+        let i = set::lowest(rest);
+        put_offers(offers, b, k, i, silently, closure, table, room);
+        let found = by_offers(b, k, i, offers, room);
         match found {
             Found::At(_) => return found,
             Found::Nothing => {}
         }
-        i += 1;
+        rest = set::drop_lowest(rest);
     }
     Found::Nothing
+}
+
+// Rule 2. `highs` is the set of the high inputs; `members` are empty sets.
+fn rule_2(b: &[u8], highs: u64, members: &mut [u64; 64], mates: &mut [u64; 64]) -> Found
+    requires { ⌜ Framed (now b) ⌝ }
+    requires { ⌜ ClassesBelow (now b) ⌝ }
+    requires { ⌜ Spoken (now b) 1 highs ⌝ }
+    requires { ⌜ now members ≡ replicate 64 0 ⌝ }
+    ensures { λ r. ⌜ shows r ≡ rule-violation (now (b .entry)) 1 ⌝ }
+{
+    if highs == 0 {
+        return Found::Nothing;
+    }
+    classes::put_mates(mates, b, members);
+    by_fixed(b, 1, highs, mates, mates)
+}
+
+// Rule 4, with the classes that silent steps lead to: none where the states of a class reach the same.
+fn rule_4(b: &[u8], silent: u64, met: &[u64; 64], room: &mut [u64; 64]) -> Found
+    requires { ⌜ Framed (now b) ⌝ }
+    requires { ⌜ ClassesBelow (now b) ⌝ }
+    requires { ⌜ Spoken (now b) 3 silent ⌝ }
+    requires { ⌜ Rows (states (now b)) (now met) (reached (now b)) ⌝ }
+    ensures { λ r. ⌜ shows r ≡ rule-violation (now (b .entry)) 3 ⌝ }
+{
+    if classes::even(b, met, room) {
+        return Found::Nothing;
+    }
+    classes::put_agreed(room, b, met);
+    by_fixed(b, 3, silent, room, met)
+}
+
+// Rules 4 and 5, where there are silent events.
+fn with_silent(
+    b: &[u8],
+    spoken: &[u64; 5],
+    own: &[u64; 64],
+    room: &mut [u64; 64],
+    offers: &mut [u64; 64],
+) -> Found
+    requires { ⌜ Framed (now b) ⌝ }
+    requires { ⌜ RowsWithin (now b) × ClassesBelow (now b) ⌝ }
+    requires { ⌜ ((k : ℕ) → k < 5 → Spoken (now b) k (getD (now spoken) k 0)) ⌝ }
+    requires { ⌜ Owns (now b) (now own) ⌝ }
+    requires { ⌜ first 3 (rule-violation (now b)) ≡ none ⌝ }
+    ensures { λ r. ⌜ shows r ≡ first-violation (now (b .entry)) ⌝ }
+{
+    let closure = closure(b, spoken[3]);
+    let met = set::gather_each(Part::states(b), &closure, own);
+    let found = rule_4(b, spoken[3], &met, room);
+    match found {
+        Found::At(_) => return found,
+        Found::Nothing => {}
+    }
+    by_event(b, 4, spoken[4], true, &closure, &met, room, offers)
+}
+
+// Rules 3 to 5.
+fn rules_from_3(b: &[u8], spoken: &[u64; 5], room: &mut [u64; 64], offers: &mut [u64; 64]) -> Found
+    requires { ⌜ Framed (now b) ⌝ }
+    requires { ⌜ RowsWithin (now b) × ClassesBelow (now b) ⌝ }
+    requires { ⌜ ((k : ℕ) → k < 5 → Spoken (now b) k (getD (now spoken) k 0)) ⌝ }
+    requires { ⌜ first 2 (rule-violation (now b)) ≡ none ⌝ }
+    ensures { λ r. ⌜ shows r ≡ first-violation (now (b .entry)) ⌝ }
+{
+    let mut own = [0u64; 64];
+    classes::put_own(&mut own, b);
+    let found = by_event(b, 2, spoken[2], false, &own, &own, room, offers);
+    match found {
+        Found::At(_) => return found,
+        Found::Nothing => {}
+    }
+    if spoken[3] == 0 {
+        return by_event(b, 4, spoken[4], false, &own, &own, room, offers);
+    }
+    with_silent(b, spoken, &own, room, offers)
+}
+
+// Rules 2 to 5. Where no two states share a class, rules 3 to 5 ask nothing.
+fn rules_from_2(b: &[u8], spoken: &[u64; 5]) -> Found
+    requires { ⌜ Framed (now b) ⌝ }
+    requires { ⌜ RowsWithin (now b) × ClassesBelow (now b) ⌝ }
+    requires { ⌜ ((k : ℕ) → k < 5 → Spoken (now b) k (getD (now spoken) k 0)) ⌝ }
+    requires { ⌜ first 1 (rule-violation (now b)) ≡ none ⌝ }
+    ensures { λ r. ⌜ shows r ≡ first-violation (now (b .entry)) ⌝ }
+{
+    let mut room = [0u64; 64];
+    let mut offers = [0u64; 64];
+    let found = rule_2(b, spoken[1], &mut room, &mut offers);
+    match found {
+        Found::At(_) => return found,
+        Found::Nothing => {}
+    }
+    if classes::distinct(b) {
+        return Found::Nothing;
+    }
+    rules_from_3(b, spoken, &mut room, &mut offers)
 }
 
 // The first violation of the rules.
@@ -273,18 +239,14 @@ pub fn first_violation(b: &[u8]) -> Found
     requires { ⌜ RowsWithin (now b) × ClassesBelow (now b) ⌝ }
     ensures { λ r. ⌜ shows r ≡ first-violation (now (b .entry)) ⌝ }
 {
-    let n = Part::states(b);
-    let own = classes::singles(b);
-    let closure = closure(b);
-    let classes = set::gather_each(n, &closure, &own);
-    let mut k = 0;
-    while k < 5 {
-        let found = by_rule(b, k, &closure, &classes, &own);
-        match found {
-            Found::At(_) => return found,
-            Found::Nothing => {}
-        }
-        k += 1;
+    if Part::events(b) == 0 {
+        return Found::Nothing;
     }
-    Found::Nothing
+    let spoken = event::spoken(b);
+    let found = rule_1(b, spoken[0]);
+    match found {
+        Found::At(_) => return found,
+        Found::Nothing => {}
+    }
+    rules_from_2(b, &spoken)
 }

@@ -12,6 +12,7 @@ use crate::answer::Hooking;
 use crate::answer::Loading;
 use crate::walk::offset;
 use composite::answer::Fit;
+use composite::merge::merge;
 use composite::obstacle::obstacle;
 use join::writer::joined_length;
 use join::writer::write;
@@ -53,17 +54,18 @@ pub fn append_joined<'a>(s: &mut [u8], n: usize, a: &'a [u8], b: &'a [u8]) -> Ho
     ensures { λ r. ⌜ hooks r ≡ append-joined (now (s .entry)) (records (now (s .entry))) (now (a .entry)) (now (b .entry)) .answer ⌝ }
     ensures { λ r. ⌜ now (s .exit) ≡ append-joined (now (s .entry)) (records (now (s .entry))) (now (a .entry)) (now (b .entry)) .shelf ⌝ }
 {
-    let fit = obstacle(a, b);
+    let list = merge(a, b);
+    let fit = obstacle(a, b, list.count);
     match fit {
         Fit::Stopped(o) => return Hooking::Stopped(o),
         Fit::Joins => {}
     }
     let at = offset(s, n);
-    let size = joined_length(a, b);
+    let size = joined_length(a, b, list.count);
     if s.len() - at < size + Part::HEADER {
         return Hooking::NoRoom;
     }
-    write(&mut s[at..], a, b);
+    write(&mut s[at..], a, b, &list.identifiers, list.count);
     put_end(s, at + size);
     Hooking::Part(n)
 }

@@ -17,8 +17,8 @@ use borrow.Author.Tests.{eqb-true, eq-eqb, ne-eqb, lt-ltb, le-ltb, leb-false, lt
 use mathlib.Core.List.{List}
 use lib.ListN.{getD}
 use Rattle.bounded.specs.Search.{any}
-use Rattle.bounded.proofs.Search.{any-at, any-found, any-same, same-truth, is-false, true-not-false, true-or-false, and-now, and-never, and-left, and-right, or-now, or-then}
-use Rattle.words.specs.Sets.{Represents, gathered, bit, union, intersection, single, lowest, without, exceeds, mask}
+use Rattle.bounded.proofs.Search.{any-at, any-found, same-truth, is-false, is-true, true-not-false, true-or-false, and-now, and-never, and-left, and-right, or-left, or-right, or-now, or-then}
+use Rattle.words.specs.Sets.{gathered, bit, union, intersection, single, lowest, without, exceeds, mask}
 
 -- ---- a bit at a time
 
@@ -235,6 +235,22 @@ pub members-within : (n x : ℕ) → ((t : ℕ) → n ≤ t → bit x t ≡ fals
 unfolding exceeds
 members-within n x f = lt-leb (2 ^ n) x (all-below n x f)
 
+pub exceeds-union : (n x y : ℕ) → exceeds n (union x y) ≡ (exceeds n x || exceeds n y)
+exceeds-union n x y =
+    same-truth (exceeds n (union x y)) (exceeds n x || exceeds n y)
+    (λ e.
+    is-true _ (λ f.
+    true-not-false e (members-within n (union x y) (λ t l.
+    bit-union x y t
+    ∙ or-then (bit x t) (bit y t) (within-members n x (or-left (exceeds n x) (exceeds n y) f) t l)
+    ∙ within-members n y (or-right (exceeds n x) (exceeds n y) f) t l))))
+    (λ e.
+    is-true _ (λ f.
+    let none : (t : ℕ) → n ≤ t → (bit x t || bit y t) ≡ false = λ t l. sym (bit-union x y t) ∙ within-members n (union x y) f t l in
+    true-not-false e
+    (or-then (exceeds n x) (exceeds n y) (members-within n x (λ t l. or-left (bit x t) (bit y t) (none t l)))
+    ∙ members-within n y (λ t l. or-right (bit x t) (bit y t) (none t l)))))
+
 -- What the code of `exceeds` tests: after n - 1 places are shifted out, at least 2 is left.
 pub exceeds-shifted : (n x : ℕ) → 1 ≤ n → leb 2 (x / 2 ^ (n - 1)) ≡ exceeds n x
 unfolding exceeds
@@ -336,6 +352,10 @@ pub without-le : (x t : ℕ) → without x t ≤ x
 unfolding without
 without-le x t = omega arith
 
+pub without-less : (x t : ℕ) → (x ≡ 0 → ⊥) → without x t < x
+unfolding without
+without-less x t n = omega (arith, pow-pos t)
+
 -- ---- what the code of a single set computes
 
 pub shifted-one : (t : ℕ) → t < 64 → 1 * 2 ^ t % 2 ^ 64 ≡ single t
@@ -343,10 +363,6 @@ unfolding single
 shifted-one t h = ap (λ (y : ℕ). y % 2 ^ 64) (one-mul (2 ^ t)) ∙ mod-eq-of-lt (pow-lt h)
 
 -- ---- gathering
-
-pub gathered-none : (x : ℕ) (table : List ℕ) (c : ℕ) → gathered 0 x table c ≡ false
-unfolding gathered any
-gathered-none x table c = refl
 
 -- Nothing is gathered from the empty set.
 pub gathered-empty : (n : ℕ) (table : List ℕ) (c : ℕ) → gathered n 0 table c ≡ false
@@ -356,12 +372,20 @@ gathered-empty n table c =
     let w = any-found n (λ u. bit 0 u && bit (getD table u 0) c) e in
     true-not-false (and-left (bit 0 (w .0)) (bit (getD table (w .0) 0) c) (w .2)) (bit-zero (w .0)))
 
--- Sets with the same members below n gather the same.
-pub gathered-same : (n x y : ℕ) (table : List ℕ) → ((t : ℕ) → t < n → bit x t ≡ bit y t) → (c : ℕ) → gathered n x table c ≡ gathered n y table c
+-- Where all members of x are below n, only the first n words count.
+pub gathered-within : (n x : ℕ) (table : List ℕ) → n ≤ 64 → ((t : ℕ) → n ≤ t → bit x t ≡ false) → (c : ℕ)
+    → gathered 64 x table c ≡ gathered n x table c
 unfolding gathered
-gathered-same n x y table h c =
-    any-same n (λ u. bit x u && bit (getD table u 0) c) (λ u. bit y u && bit (getD table u 0) c)
-    (λ u l. ap (λ (p : Bool). p && bit (getD table u 0) c) (h u l))
+gathered-within n x table l f c =
+    let here : ℕ → Bool = λ u. bit x u && bit (getD table u 0) c in
+    same-truth (any 64 here) (any n here)
+    (λ e.
+    let w = any-found 64 here e in
+    elim (decLt (w .0) n) [
+      | yes k ↦ any-at here n (w .0) k (w .2)
+      | no k ↦ absurd (true-not-false (and-left (bit x (w .0)) (bit (getD table (w .0) 0) c) (w .2)) (f (w .0) (omega arith)))
+    ])
+    (λ e. let w = any-found n here e in any-at here 64 (w .0) (lt-of-lt-of-le (w .1) l) (w .2))
 
 -- The word at a member t of x, and what x without t gathers, is what x gathers.
 pub gathered-without : (n x t : ℕ) (table : List ℕ) → t < n → bit x t ≡ true → (c : ℕ)
@@ -395,20 +419,22 @@ gathered-without n x t table h m c =
     or-last : (p q : Bool) → q ≡ true → (p || q) ≡ true
     or-last p q e = ap (λ (x : Bool). p || x) e ∙ or-true p
 
--- ---- what the code of `below` and `drop_lowest` computes
+-- What a step of `gather` finds and leaves comes to the same as before it.
+pub gathered-lowest : (found rest : ℕ) (table : List ℕ) → rest < 2 ^ 64 → (rest ≡ 0 → ⊥) → (c : ℕ)
+    → (bit (union found (getD table (lowest rest) 0)) c || gathered 64 (without rest (lowest rest)) table c) ≡ (bit found c || gathered 64 rest table c)
+gathered-lowest found rest table h z c =
+    let t = lowest rest in
+    let word = getD table t 0 in
+    ap (λ (p : Bool). p || gathered 64 (without rest t) table c) (bit-union found word c)
+    ∙ or-assoc (bit found c) (bit word c) (gathered 64 (without rest t) table c)
+    ∙ ap (λ (p : Bool). bit found c || p) (sym (gathered-without 64 rest t table (lowest-below rest h z) (lowest-member rest h z .member) c))
 
-shifted-full : (n t : ℕ) → n ≤ 64 → bit ((2 ^ 64 - 1) / 2 ^ (64 - n)) t ≡ ltb t n
-unfolding bit
-shifted-full n t h =
-    let at = 64 - n + t in
-    ap (λ (y : ℕ). eqb (y % 2) 1) (shr-shr (2 ^ 64 - 1) (64 - n) t)
-    ∙ elim (decLt t n) [
-      | yes l ↦ bit-full 64 at (omega arith) ∙ sym (lt-ltb t n l)
-      | no l ↦ none-above (2 ^ 64 - 1) 64 at (lit< tt) (omega arith) ∙ sym (le-ltb t n (omega arith))
-    ]
+-- Where nothing is left, what is found is all.
+pub gathered-end : (found rest : ℕ) (table : List ℕ) → rest ≡ 0 → (c : ℕ) → (bit found c || gathered 64 rest table c) ≡ bit found c
+gathered-end found rest table e c =
+    ap (λ (r : ℕ). bit found c || gathered 64 r table c) e ∙ ap (λ (p : Bool). bit found c || p) (gathered-empty 64 table c) ∙ or-false (bit found c)
 
-pub below-full : (n x : ℕ) → n ≤ 64 → Represents (intersection x ((2 ^ 64 - 1) / 2 ^ (64 - n))) (λ t. bit x t && ltb t n)
-below-full n x h t = bit-intersection x _ t ∙ ap (λ (p : Bool). bit x t && p) (shifted-full n t h)
+-- ---- what the code of `drop_lowest` computes
 
 clear : (k x : ℕ) → x < 2 ^ k → (x ≡ 0 → ⊥) → bitAnd x (x - 1) ≡ x - 2 ^ trailingZeros k x
 unfolding trailingZeros
@@ -436,49 +462,7 @@ pub clear-lowest : (x : ℕ) → x < 2 ^ 64 → (x ≡ 0 → ⊥) → bitAnd x (
 unfolding without lowest
 clear-lowest x h n = clear 64 x h n
 
--- ---- the loop of `gather`: what is found, and what is left of the set
-
-module _ (n x : ℕ) (table : List ℕ) where
-  pub record Gathering (rest found : ℕ) : Type 0 where
-    pub inside : (t : ℕ) → n ≤ t → bit rest t ≡ false
-    pub sum : (c : ℕ) → gathered n x table c ≡ (bit found c || gathered n rest table c)
-
-  pub gathering-start : (rest : ℕ) → Represents rest (λ t. bit x t && ltb t n) → Gathering rest 0
-  gathering-start rest r = record {
-    inside = λ t h. r t ∙ ap (λ (p : Bool). bit x t && p) (le-ltb t n h) ∙ and-false (bit x t);
-    sum = λ c.
-        gathered-same n x rest table (λ t l. sym (r t ∙ ap (λ (p : Bool). bit x t && p) (lt-ltb t n l) ∙ and-true (bit x t))) c
-        ∙ sym (or-then (bit 0 c) (gathered n rest table c) (bit-zero c));
-  }
-
-  pub gathering-small : (rest found : ℕ) → n ≤ 64 → Gathering rest found → rest < 2 ^ 64
-  gathering-small rest found h g = all-below 64 rest (λ t l. g .inside t (omega arith))
-
-  pub gathering-lowest : (rest found : ℕ) → n ≤ 64 → Gathering rest found → (rest ≡ 0 → ⊥) → lowest rest < n
-  gathering-lowest rest found h g z =
-      elim (decLt (lowest rest) n) [
-        | yes l ↦ l
-        | no l ↦ absurd (true-not-false (lowest-member rest (gathering-small rest found h g) z .member) (g .inside (lowest rest) (omega arith)))
-      ]
-
-  pub gathering-next : (rest found : ℕ) → n ≤ 64 → Gathering rest found → (rest ≡ 0 → ⊥)
-      → Gathering (without rest (lowest rest)) (union found (getD table (lowest rest) 0))
-  gathering-next rest found h g z =
-      let m = lowest-member rest (gathering-small rest found h g) z .member in
-      let word = getD table (lowest rest) 0 in
-      record {
-        inside = λ t l.
-            bit-without rest (lowest rest) t m ∙ and-never (bit rest t) (not (eqb (lowest rest) t)) (g .inside t l);
-        sum = λ c.
-            g .sum c ∙ ap (λ (p : Bool). bit found c || p) (gathered-without n rest (lowest rest) table (gathering-lowest rest found h g z) m c)
-            ∙ sym (or-assoc (bit found c) (bit word c) (gathered n (without rest (lowest rest)) table c))
-            ∙ ap (λ (p : Bool). p || gathered n (without rest (lowest rest)) table c) (sym (bit-union found word c));
-      }
-
-  pub gathering-end : (rest found : ℕ) → rest ≡ 0 → Gathering rest found → Represents found (gathered n x table)
-  gathering-end rest found e g c =
-      sym (g .sum c ∙ ap (λ (r : ℕ). bit found c || gathered n r table c) e ∙ ap (λ (p : Bool). bit found c || p) (gathered-empty n table c) ∙ or-false (bit found c))
-
-pub without-less : (x t : ℕ) → (x ≡ 0 → ⊥) → without x t < x
-unfolding without
-without-less x t n = omega (arith, pow-pos t)
+-- Nothing is left of x without its lowest member: it has no other.
+pub single-lowest : (x : ℕ) → x < 2 ^ 64 → (x ≡ 0 → ⊥) → without x (lowest x) ≡ 0 → x ≡ single (lowest x)
+unfolding without single
+single-lowest x h n e = let le = member-le x (lowest x) (lowest-member x h n .member) in omega arith

@@ -4,7 +4,8 @@ use mathlib.Core.Option.{none, some}
 use native.Mathlib.Omega.{arith}
 use Rattle.bounded.specs.Search.{first}
 use Rattle.bounded.proofs.Search.{first-more, first-hit, first-done}
-use Rattle.part.proofs.Ranges.{frame}
+use Rattle.part.specs.Machine.{place-or-end}
+use Rattle.part.proofs.Ranges.{frame, ranges}
 use Rattle.composite.specs.Joining.{clash, clash-at, first-clash}
 use Rattle.composite.specs.Answers.{stops, obstacle-of}
 use Rattle.composite.proofs.Obstacles.{clash-here, no-clash-here}
@@ -13,10 +14,10 @@ use Rattle.composite.proofs.obstacle.first_clash.Tie as tie
 
 -- No event before place i clashes.
 abbrev Inv-loop : tie.InvT-loop
-Inv-loop a b m i₀ i = (i ≤ m) × (first i (clash-at a b) ≡ none)
+Inv-loop a b m near₀ i₀ near i = (i ≤ m) × (first i (clash-at a b) ≡ none)
 
 abbrev μ-loop : tie.MeasureT-loop
-μ-loop a b m i₀ i = m - i
+μ-loop a b m near₀ i₀ near i = m - i
 
 events-requires : tie.Need-events-requires Inv-loop μ-loop
 events-requires c κs = omega (arith, frame _ (c .before .before .pre .0) .whole)
@@ -25,19 +26,30 @@ loop-holds : tie.Need-loop-holds Inv-loop μ-loop
 unfolding first
 loop-holds c = (omega arith, refl)
 
-clash-at-requires : tie.Need-clash-at-requires Inv-loop μ-loop
-clash-at-requires c κs = let p = c .before .before .before .before .before .pre in (p .0, (p .1, omega arith))
-
 identifier-requires : tie.Need-identifier-requires Inv-loop μ-loop
-identifier-requires c κs = let p = c .before .before .before .before .before .before .before .pre in (frame _ (p .0), omega arith)
+identifier-requires c κs = let p = c .before .before .before .before .before .pre in (frame _ (p .0), omega arith)
+
+place-near-requires : tie.Need-place-near-requires Inv-loop μ-loop
+place-near-requires c κs = let p = c .before .before .before .before .before .before .pre in (frame _ (p .1), ranges _ (p .1) .identifiers-rise)
+
+clash-at-requires : tie.Need-clash-at-requires Inv-loop μ-loop
+clash-at-requires c κs =
+    let start = c .before .before .before .before .before .before .before in
+    (start .pre .0, (start .pre .1, (omega arith, c .place-near .ensures ∙ ap (place-or-end (start .args .b .now)) (c .before .identifier .ensures .0))))
 
 returns : tie.Need-returns Inv-loop μ-loop
 unfolding stops obstacle-of first-clash
 returns c =
-    let l = c .before .before .before .before .loop in
-    let here = clash-here _ _ (l .i) (sym (c .before .before .clash-at .ensures) ∙ c .before .if1 .taken) in
-    ap (λ (e : ℕ). some (clash e)) (c .identifier .ensures .0)
+    let l = c .before .before .before .before .before .loop in
+    let here = clash-here _ _ (l .i) (c .before .clash-at .ensures) (c .if1 .taken) in
+    ap (λ (e : ℕ). some (clash e)) (c .before .before .before .identifier .ensures .0)
     ∙ sym (first-hit (clash-at _ _) _ (l .i) _ (omega arith) (l .inv .1) here)
+
+events-requires-2 : tie.Need-events-requires-2 Inv-loop μ-loop
+events-requires-2 c κs = omega (arith, frame _ (c .before .before .before .before .before .before .before .before .before .pre .1) .whole)
+
+add-near : tie.Need-add-near Inv-loop μ-loop
+add-near c = omega arith
 
 add-i : tie.Need-add-i Inv-loop μ-loop
 add-i c = omega arith
@@ -47,8 +59,8 @@ loop-less c = omega arith
 
 loop-again : tie.Need-loop-again Inv-loop μ-loop
 loop-again c =
-    let l = c .before .before .before .loop in
-    let here = no-clash-here _ _ (l .i) (sym (c .before .clash-at .ensures) ∙ c .if1 .left) in
+    let l = c .before .before .before .before .before .before .before .loop in
+    let here = no-clash-here _ _ (l .i) (c .before .before .before .clash-at .ensures) (c .before .before .if1 .left) in
     (omega arith, first-more _ (l .i) (l .inv .1) here)
 
 returns-2 : tie.Need-returns-2 Inv-loop μ-loop
@@ -63,9 +75,12 @@ first-clash-spec =
     μ-loop
     events-requires
     loop-holds
-    clash-at-requires
     identifier-requires
+    place-near-requires
+    clash-at-requires
     returns
+    events-requires-2
+    add-near
     add-i
     loop-less
     loop-again

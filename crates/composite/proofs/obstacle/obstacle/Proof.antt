@@ -11,7 +11,7 @@ observer-requires : tie.Need-observer-requires
 observer-requires c κs = omega (arith, frame _ (c .before .before .pre .0) .whole)
 
 observer-requires-2 : tie.Need-observer-requires-2
-observer-requires-2 c κs = omega (arith, frame _ (c .before .before .before .pre .1) .whole)
+observer-requires-2 c κs = omega (arith, frame _ (c .before .before .before .pre .1 .0) .whole)
 
 returns : tie.Need-returns
 unfolding stops obstacle-of

@@ -8,7 +8,7 @@ states-requires : tie.Need-states-requires
 states-requires c κs = omega (arith, frame _ (c .before .before .pre .0) .whole)
 
 states-requires-2 : tie.Need-states-requires-2
-states-requires-2 c κs = omega (arith, frame _ (c .before .before .before .pre .1) .whole)
+states-requires-2 c κs = omega (arith, frame _ (c .before .before .before .pre .1 .0) .whole)
 
 mul-if1 : tie.Need-mul-if1
 mul-if1 c = omega (arith, states-product (c .before .states .ensures .1) (c .states2 .ensures .1))
@@ -16,12 +16,8 @@ mul-if1 c = omega (arith, states-product (c .before .states .ensures .1) (c .sta
 returns : tie.Need-returns
 returns c = many-states _ _ (c .before .before .states .ensures .0) (c .before .states2 .ensures .0) (c .if1 .taken)
 
-merge-requires : tie.Need-merge-requires
-merge-requires c κs = let p = c .before .before .before .before .before .pre in (frame _ (p .0), frame _ (p .1))
-
 returns-2 : tie.Need-returns-2
-returns-2 c = many-events _ _ (c .before .before .before .before .states .ensures .0) (c .before .before .before .states2 .ensures .0) (c .before .before .if1 .left) (c .before .merge .ensures .0)
+returns-2 c = many-events _ _ (c .before .before .states .ensures .0) (c .before .states2 .ensures .0) (c .if1 .left) (c .before .before .before .before .before .pre .1 .1)
 
 pub too-large-spec : {M : Type 1} → statement M
-too-large-spec =
-    tie.close (tie.spec states-requires states-requires-2 mul-if1 returns merge-requires returns-2)
+too-large-spec = tie.close (tie.spec states-requires states-requires-2 mul-if1 returns returns-2)

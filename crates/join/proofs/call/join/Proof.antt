@@ -4,6 +4,7 @@ use borrow.Author.Needs.{needs}
 use Rattle.restrictive.specs.Answers as record-answers
 use Rattle.composite.specs.Joining.{length-is, buffer-after}
 use Rattle.composite.specs.Answers.{means, stops, side-of}
+use Rattle.part.proofs.Ranges.{frame}
 use Rattle.join.proofs.Answering.{refuses, breaking, passing-accepted, joint, first-unfit, second-unfit, obstructed, roomless, roomy}
 use Rattle.join.proofs.call.join.Statement.{statement}
 use Rattle.join.proofs.call.join.Tie as tie
@@ -48,31 +49,35 @@ returns-4 c = (sym (second-unfit _ _ _ (sym (c .before .before .before .before .
 enum-told-2 : tie.Need-enum-told-2
 enum-told-2 c = search needs
 
+merge-requires : tie.Need-merge-requires
+unfolding record-answers.means
+merge-requires c κs = (frame _ (passing-accepted _ (sym (c .before .before .before .before .before .check .ensures) ∙ ap record-answers.means (c .before .before .before .enum-told .given .1))), frame _ (passing-accepted _ (sym (c .before .before .check2 .ensures) ∙ ap record-answers.means (c .enum-told2 .given .1))))
+
 obstacle-requires : tie.Need-obstacle-requires
 unfolding record-answers.means
-obstacle-requires c κs = (passing-accepted _ (sym (c .before .before .before .before .before .check .ensures) ∙ ap record-answers.means (c .before .before .before .enum-told .given .1)), passing-accepted _ (sym (c .before .before .check2 .ensures) ∙ ap record-answers.means (c .enum-told2 .given .1)))
+obstacle-requires c κs = (passing-accepted _ (sym (c .before .before .before .before .before .before .check .ensures) ∙ ap record-answers.means (c .before .before .before .before .enum-told .given .1)), (passing-accepted _ (sym (c .before .before .before .check2 .ensures) ∙ ap record-answers.means (c .before .enum-told2 .given .1)), c .merge .ensures .0))
 
 enum-known-fit : tie.Need-enum-known-fit
 enum-known-fit c = search needs
 
 returns-5 : tie.Need-returns-5
 unfolding means record-answers.means stops buffer-after
-returns-5 c = (sym (obstructed _ _ _ (sym (c .before .before .before .before .before .before .before .before .before .check .ensures) ∙ ap record-answers.means (c .before .before .before .before .before .before .before .enum-told .given .1)) (sym (c .before .before .before .before .before .before .check2 .ensures) ∙ ap record-answers.means (c .before .before .before .before .enum-told2 .given .1)) (sym (c .before .before .before .obstacle .ensures) ∙ ap stops (c .before .fit .given .1))), refl)
+returns-5 c = (sym (obstructed _ _ _ (sym (c .before .before .before .before .before .before .before .before .before .before .check .ensures) ∙ ap record-answers.means (c .before .before .before .before .before .before .before .before .enum-told .given .1)) (sym (c .before .before .before .before .before .before .before .check2 .ensures) ∙ ap record-answers.means (c .before .before .before .before .before .enum-told2 .given .1)) (sym (c .before .before .before .obstacle .ensures) ∙ ap stops (c .before .fit .given .1))), refl)
 
 enum-told-3 : tie.Need-enum-told-3
 enum-told-3 c = search needs
 
 joined-length-requires : tie.Need-joined-length-requires
 unfolding record-answers.means stops
-joined-length-requires c κs = joint _ _ (sym (c .before .before .before .before .before .before .before .before .check .ensures) ∙ ap record-answers.means (c .before .before .before .before .before .before .enum-told .given .1)) (sym (c .before .before .before .before .before .check2 .ensures) ∙ ap record-answers.means (c .before .before .before .enum-told2 .given .1)) (sym (c .before .before .obstacle .ensures) ∙ ap stops (c .enum-told3 .given .1))
+joined-length-requires c κs = (joint _ _ (sym (c .before .before .before .before .before .before .before .before .before .check .ensures) ∙ ap record-answers.means (c .before .before .before .before .before .before .before .enum-told .given .1)) (sym (c .before .before .before .before .before .before .check2 .ensures) ∙ ap record-answers.means (c .before .before .before .before .enum-told2 .given .1)) (sym (c .before .before .obstacle .ensures) ∙ ap stops (c .enum-told3 .given .1)), c .before .before .before .merge .ensures .0)
 
 returns-6 : tie.Need-returns-6
 unfolding means record-answers.means stops buffer-after
-returns-6 c = (sym (roomless _ _ _ (sym (c .before .before .before .before .before .before .before .before .before .before .check .ensures) ∙ ap record-answers.means (c .before .before .before .before .before .before .before .before .enum-told .given .1)) (sym (c .before .before .before .before .before .before .before .check2 .ensures) ∙ ap record-answers.means (c .before .before .before .before .before .enum-told2 .given .1)) (sym (c .before .before .before .before .obstacle .ensures) ∙ ap stops (c .before .before .enum-told3 .given .1)) (omega arith)), refl)
+returns-6 c = (sym (roomless _ _ _ (sym (c .before .before .before .before .before .before .before .before .before .before .before .check .ensures) ∙ ap record-answers.means (c .before .before .before .before .before .before .before .before .before .enum-told .given .1)) (sym (c .before .before .before .before .before .before .before .before .check2 .ensures) ∙ ap record-answers.means (c .before .before .before .before .before .before .enum-told2 .given .1)) (sym (c .before .before .before .before .obstacle .ensures) ∙ ap stops (c .before .before .enum-told3 .given .1)) (omega arith)), refl)
 
 write-requires : tie.Need-write-requires
 unfolding record-answers.means stops
-write-requires c κs = (joint _ _ (sym (c .before .before .before .before .before .before .before .before .before .before .before .check .ensures) ∙ ap record-answers.means (c .before .before .before .before .before .before .before .before .before .enum-told .given .1)) (sym (c .before .before .before .before .before .before .before .before .check2 .ensures) ∙ ap record-answers.means (c .before .before .before .before .before .before .enum-told2 .given .1)) (sym (c .before .before .before .before .before .obstacle .ensures) ∙ ap stops (c .before .before .before .enum-told3 .given .1)), omega arith)
+write-requires c κs = (joint _ _ (sym (c .before .before .before .before .before .before .before .before .before .before .before .before .before .before .check .ensures) ∙ ap record-answers.means (c .before .before .before .before .before .before .before .before .before .before .before .before .enum-told .given .1)) (sym (c .before .before .before .before .before .before .before .before .before .before .before .check2 .ensures) ∙ ap record-answers.means (c .before .before .before .before .before .before .before .before .before .enum-told2 .given .1)) (sym (c .before .before .before .before .before .before .before .obstacle .ensures) ∙ ap stops (c .before .before .before .before .before .enum-told3 .given .1)), (record { size = c .before .before .before .before .before .before .before .before .merge .ensures .0; front = c .before .before .before .before .before .before .before .before .merge .ensures .1 }, omega arith))
 
 same-length : tie.Need-same-length
 same-length c = search needs
@@ -80,8 +85,8 @@ same-length c = search needs
 returns-7 : tie.Need-returns-7
 unfolding means record-answers.means stops buffer-after
 returns-7 c =
-    let size = c .before .before .before .before .before .joined-length .ensures in
-    (ap length-is size ∙ sym (roomy _ _ _ (sym (c .before .before .before .before .before .before .before .before .before .before .before .before .before .before .check .ensures) ∙ ap record-answers.means (c .before .before .before .before .before .before .before .before .before .before .before .before .enum-told .given .1)) (sym (c .before .before .before .before .before .before .before .before .before .before .before .check2 .ensures) ∙ ap record-answers.means (c .before .before .before .before .before .before .before .before .before .enum-told2 .given .1)) (sym (c .before .before .before .before .before .before .before .before .obstacle .ensures) ∙ ap stops (c .before .before .before .before .before .before .enum-told3 .given .1)) (omega arith)), c .before .before .write .ensures)
+    let size = c .before .before .before .before .before .before .before .joined-length .ensures in
+    (ap length-is size ∙ sym (roomy _ _ _ (sym (c .before .before .before .before .before .before .before .before .before .before .before .before .before .before .before .before .before .check .ensures) ∙ ap record-answers.means (c .before .before .before .before .before .before .before .before .before .before .before .before .before .before .before .enum-told .given .1)) (sym (c .before .before .before .before .before .before .before .before .before .before .before .before .before .before .check2 .ensures) ∙ ap record-answers.means (c .before .before .before .before .before .before .before .before .before .before .before .before .enum-told2 .given .1)) (sym (c .before .before .before .before .before .before .before .before .before .before .obstacle .ensures) ∙ ap stops (c .before .before .before .before .before .before .before .before .enum-told3 .given .1)) (omega arith)), c .before .before .write .ensures)
 
 pub join-spec : {M : Type 1} → statement M
 join-spec =
@@ -99,6 +104,7 @@ join-spec =
     enum-known-second-2
     returns-4
     enum-told-2
+    merge-requires
     obstacle-requires
     enum-known-fit
     returns-5

@@ -11,10 +11,10 @@ use Rattle.join.proofs.entries.put_entries.Tie as tie
 
 -- The first i entries are laid.
 abbrev Inv-loop : tie.InvT-loop
-Inv-loop out₀ at a b list count i₀ out i = (i ≤ count) × (out ≡ over out₀ at (first-entries a b i))
+Inv-loop out₀ at a b list count first second i₀ out i = (i ≤ count) × (out ≡ over out₀ at (first-entries a b i))
 
 abbrev μ-loop : tie.MeasureT-loop
-μ-loop out₀ at a b list count i₀ out i = count - i
+μ-loop out₀ at a b list count first second i₀ out i = count - i
 
 loop-holds : tie.Need-loop-holds Inv-loop μ-loop
 loop-holds c = (omega arith, nothing-laid _ _ _)
@@ -31,10 +31,24 @@ mul-put-entry-2 c = let p = c .before .before .before .before .before .before .p
 element-copy-out-put-entry : tie.Need-element-copy-out-put-entry Inv-loop μ-loop
 element-copy-out-put-entry c = let p = c .before .before .before .before .before .before .pre in omega (arith, lists-few _ _ _ _ (p .0) (p .1 .0))
 
+mul-put-entry-3 : tie.Need-mul-put-entry-3 Inv-loop μ-loop
+mul-put-entry-3 c = let p = c .before .before .before .before .before .before .before .pre in omega (arith, lists-few _ _ _ _ (p .0) (p .1 .0))
+
+element-copy-out-put-entry-2 : tie.Need-element-copy-out-put-entry-2 Inv-loop μ-loop
+element-copy-out-put-entry-2 c = let p = c .before .before .before .before .before .before .before .pre in omega (arith, lists-few _ _ _ _ (p .0) (p .1 .0))
+
+mul-put-entry-4 : tie.Need-mul-put-entry-4 Inv-loop μ-loop
+mul-put-entry-4 c = let p = c .before .before .before .before .before .before .before .before .pre in omega (arith, lists-few _ _ _ _ (p .0) (p .1 .0))
+
+element-copy-out-put-entry-3 : tie.Need-element-copy-out-put-entry-3 Inv-loop μ-loop
+element-copy-out-put-entry-3 c = let p = c .before .before .before .before .before .before .before .before .pre in omega (arith, lists-few _ _ _ _ (p .0) (p .1 .0))
+
 put-entry-requires : tie.Need-put-entry-requires Inv-loop μ-loop
 put-entry-requires c κs =
-    let l = c .before .before .before .loop in
-    (c .before .before .before .before .before .before .before .pre .0, omega (arith, ap length (l .inv .1) ∙ length-over _ _ _))
+    let l = c .before .before .before .before .before .loop in
+    let p = c .before .before .before .before .before .before .before .before .before .pre in
+    let places = p .1 .1 .0 in
+    (p .0, ((places .0 (l .i) (omega arith), places .1 (l .i) (omega arith)), omega (arith, ap length (l .inv .1) ∙ length-over _ _ _)))
 
 add-i : tie.Need-add-i Inv-loop μ-loop
 add-i c = omega arith
@@ -44,8 +58,8 @@ loop-less c = omega arith
 
 loop-again : tie.Need-loop-again Inv-loop μ-loop
 loop-again c =
-    let l = c .before .before .before .before .before .before .loop in
-    let p = c .before .before .before .before .before .before .before .before .before .before .pre in
+    let l = c .before .before .before .before .before .before .before .before .loop in
+    let p = c .before .before .before .before .before .before .before .before .before .before .before .before .pre in
     (omega arith, entries-next _ _ _ _ _ _ (l .i) (p .1 .0) (omega arith) (l .inv .1) (c .before .before .put-entry .ensures))
 
 same-length : tie.Need-same-length Inv-loop μ-loop
@@ -67,6 +81,10 @@ put-entries-spec =
     add-put-entry
     mul-put-entry-2
     element-copy-out-put-entry
+    mul-put-entry-3
+    element-copy-out-put-entry-2
+    mul-put-entry-4
+    element-copy-out-put-entry-3
     put-entry-requires
     add-i
     loop-less

@@ -5,12 +5,6 @@ use Rattle.join.proofs.Entering.{has-head, sort-none, sort-first, sort-
 use Rattle.join.proofs.entries.sort_of.Statement.{statement}
 use Rattle.join.proofs.entries.sort_of.Tie as tie
 
-place-requires : tie.Need-place-requires
-place-requires c κs = search frame
-
-place-requires-2 : tie.Need-place-requires-2
-place-requires-2 c κs = search frame
-
 events-requires : tie.Need-events-requires
 events-requires c κs = search has-head
 
@@ -18,7 +12,7 @@ events-requires-2 : tie.Need-events-requires-2
 events-requires-2 c κs = search has-head
 
 returns : tie.Need-returns
-returns c = sort-none _ _ _ _ _ (c .before .before .before .before .before .place .ensures) (c .before .before .before .before .place2 .ensures) (omega arith) (omega arith)
+returns c = let p = c .before .before .before .before .before .before .pre in sort-none _ _ _ _ _ (p .1 .0) (p .1 .1) (omega arith) (omega arith)
 
 event-kind-requires : tie.Need-event-kind-requires
 event-kind-requires c κs = (search frame, omega arith)
@@ -31,8 +25,8 @@ level-requires c κs = (search frame, omega arith)
 
 returns-2 : tie.Need-returns-2
 returns-2 c =
-    rw (c .before .event-kind .ensures .0, c .level .ensures)
-    (sort-second _ _ _ _ _ (c .before .before .before .before .before .before .before .place .ensures) (c .before .before .before .before .before .before .place2 .ensures) (c .before .before .before .before .before .before .before .before .before .before .pre .second) (omega arith) (omega arith))
+    let p = c .before .before .before .before .before .before .before .before .pre in
+    rw (c .before .event-kind .ensures .0, c .level .ensures) (sort-second _ _ _ _ _ (p .1 .0) (p .1 .1) (p .0 .second) (omega arith) (omega arith))
 
 events-requires-3 : tie.Need-events-requires-3
 events-requires-3 c κs = search has-head
@@ -48,8 +42,8 @@ level-requires-2 c κs = (search frame, omega arith)
 
 returns-3 : tie.Need-returns-3
 returns-3 c =
-    rw (c .before .event-kind2 .ensures .0, c .level2 .ensures)
-    (sort-first _ _ _ _ _ (c .before .before .before .before .before .before .before .place .ensures) (c .before .before .before .before .before .before .place2 .ensures) (c .before .before .before .before .before .before .before .before .before .before .pre .first) (omega arith) (omega arith))
+    let p = c .before .before .before .before .before .before .before .before .pre in
+    rw (c .before .event-kind2 .ensures .0, c .level2 .ensures) (sort-first _ _ _ _ _ (p .1 .0) (p .1 .1) (p .0 .first) (omega arith) (omega arith))
 
 cast-t15 : tie.Need-cast-t15
 cast-t15 c = search needs
@@ -58,16 +52,12 @@ level-requires-3 : tie.Need-level-requires-3
 level-requires-3 c κs = (search frame, omega arith)
 
 returns-4 : tie.Need-returns-4
-returns-4 c =
-    rw (c .level3 .ensures)
-    (sort-shared _ _ _ _ _ (c .before .before .before .before .before .before .place .ensures) (c .before .before .before .before .before .place2 .ensures) (omega arith) (omega arith))
+returns-4 c = let p = c .before .before .before .before .before .before .before .pre in rw (c .level3 .ensures) (sort-shared _ _ _ _ _ (p .1 .0) (p .1 .1) (omega arith) (omega arith))
 
 pub sort-of-spec : {M : Type 1} → statement M
 sort-of-spec =
     tie.close
     (tie.spec
-    place-requires
-    place-requires-2
     events-requires
     events-requires-2
     returns

@@ -1,72 +1,65 @@
-use Prim.Native.Nat.{_≤_}
-use mathlib.Core.Path.{sym, _∙_}
 use native.Mathlib.Omega.{arith}
-use borrow.Author.Tests.{not-true, not-false}
+use borrow.Author.Needs.{needs}
+use Rattle.words.proofs.Sets.{without-less}
 use Rattle.restrictive.specs.Answers.{shows}
-use Rattle.restrictive.proofs.Offers.{none-by}
-use Rattle.restrictive.proofs.Answering.{event-sets}
+use Rattle.restrictive.proofs.Turns.{Open, open-all, open-below, open-speaks, open-found, open-next, open-none}
 use Rattle.restrictive.proofs.rules.by_event.Statement.{statement}
 use Rattle.restrictive.proofs.rules.by_event.Tie as tie
 
-concerned-requires : tie.Need-concerned-requires
-concerned-requires c κs = (c .before .pre .0, (c .before .pre .1 .1 .0 .0, c .before .pre .1 .1 .0 .1))
+abbrev Inv-loop : tie.InvT-loop
+Inv-loop b k spoken silently closure table room₀ offers₀ rest₀ room offers rest = Open b k spoken rest
 
-returns : tie.Need-returns
+abbrev μ-loop : tie.MeasureT-loop
+μ-loop b k spoken silently closure table room₀ offers₀ rest₀ room offers rest = rest
+
+loop-holds : tie.Need-loop-holds Inv-loop μ-loop
+loop-holds c = open-all _ _ _ (c .before .pre .1 .1 .0 .1) (c .before .pre .1 .1 .1 .0) (c .before .fits .spoken .fits)
+
+lowest-requires : tie.Need-lowest-requires Inv-loop μ-loop
+lowest-requires c κs = tt
+
+put-offers-requires : tie.Need-put-offers-requires Inv-loop μ-loop
+put-offers-requires c κs = (c .before .before .before .before .before .before .pre .0, (open-below _ _ _ (c .before .before .before .before .before .before .pre .1 .1 .0 .1) (c .before .before .before .before .before .before .pre .1 .1 .1 .0) _ _ (c .before .before .before .before .loop .inv) (c .before .before .before .loop-test .taken) (c .before .before .lowest .ensures), (c .before .before .before .before .before .before .pre .1 .1 .1 .1 .0, c .before .before .before .before .before .before .pre .1 .1 .1 .1 .1)))
+
+by-offers-requires : tie.Need-by-offers-requires Inv-loop μ-loop
+by-offers-requires c κs = (c .before .before .before .before .before .before .before .before .before .pre .0, (c .before .before .before .before .before .before .before .before .before .pre .1 .0, (c .before .before .before .before .before .before .before .before .before .pre .1 .1 .0, (open-below _ _ _ (c .before .before .before .before .before .before .before .before .before .pre .1 .1 .0 .1) (c .before .before .before .before .before .before .before .before .before .pre .1 .1 .1 .0) _ _ (c .before .before .before .before .before .before .before .loop .inv) (c .before .before .before .before .before .before .loop-test .taken) (c .before .before .before .before .before .lowest .ensures), (open-speaks _ _ _ (c .before .before .before .before .before .before .before .before .before .pre .1 .1 .0 .1) (c .before .before .before .before .before .before .before .before .before .pre .1 .1 .1 .0) _ _ (c .before .before .before .before .before .before .before .loop .inv) (c .before .before .before .before .before .before .loop-test .taken) (c .before .before .before .before .before .lowest .ensures), c .before .before .put-offers .ensures)))))
+
+enum-told : tie.Need-enum-told Inv-loop μ-loop
+enum-told c = search needs
+
+returns : tie.Need-returns Inv-loop μ-loop
+returns c = open-found _ _ _ (c .before .before .before .before .before .before .before .before .before .before .before .before .pre .1 .1 .0 .1) (c .before .before .before .before .before .before .before .before .before .before .before .before .pre .1 .1 .1 .0) _ _ (c .before .before .before .before .before .before .before .before .before .before .loop .inv) (c .before .before .before .before .before .before .before .before .before .loop-test .taken) (c .before .before .before .before .before .before .before .before .lowest .ensures) _ _ (c .before .before .by-offers .ensures) (c .enum-told .given .1)
+
+enum-told-2 : tie.Need-enum-told-2 Inv-loop μ-loop
+enum-told-2 c = search needs
+
+drop-lowest-requires : tie.Need-drop-lowest-requires Inv-loop μ-loop
+drop-lowest-requires c κs = c .before .before .before .before .before .before .before .before .before .loop-test .taken
+
+loop-less : tie.Need-loop-less Inv-loop μ-loop
+loop-less c = rw (c .drop-lowest .ensures) (without-less _ _ (c .before .before .before .before .before .before .before .before .before .before .loop-test .taken))
+
+loop-again : tie.Need-loop-again Inv-loop μ-loop
+loop-again c = open-next _ _ _ (c .before .before .before .before .before .before .before .before .before .before .before .before .before .pre .1 .1 .0 .1) (c .before .before .before .before .before .before .before .before .before .before .before .before .before .pre .1 .1 .1 .0) _ _ (c .before .before .before .before .before .before .before .before .before .before .before .loop .inv) (c .before .before .before .before .before .before .before .before .before .before .loop-test .taken) (c .before .before .before .before .before .before .before .before .before .lowest .ensures) _ _ (c .before .before .before .by-offers .ensures) (c .before .enum-told2 .given .1) (c .drop-lowest .ensures)
+
+returns-2 : tie.Need-returns-2 Inv-loop μ-loop
 unfolding shows
-returns c = sym (none-by _ _ _ (c .before .before .before .pre .1 .1 .0 .1) (sym (c .before .concerned .ensures) ∙ not-true _ (c .if1 .taken)))
-
-by-row-requires : tie.Need-by-row-requires
-by-row-requires c κs = (c .before .before .before .before .pre .0, (c .before .before .before .before .pre .1 .0 .0, (c .before .before .before .before .pre .1 .1 .0 .0, rw (c .if2 .taken) at (sym (c .before .before .concerned .ensures) ∙ not-false _ (c .before .if1 .left)))))
-
-returns-2 : tie.Need-returns-2
-returns-2 c = rw (c .before .if2 .taken) (c .by-row .ensures)
-
-states-requires : tie.Need-states-requires
-states-requires c κs = omega arith
-
-rows-requires : tie.Need-rows-requires
-rows-requires c κs = (c .before .before .before .before .before .pre .0, c .before .before .before .before .before .pre .1 .1 .0 .0)
-
-gather-each-requires : tie.Need-gather-each-requires
-gather-each-requires c κs = omega arith
-
-offers-of-requires : tie.Need-offers-of-requires
-offers-of-requires c κs = omega arith
-
-allowed-of-requires : tie.Need-allowed-of-requires
-allowed-of-requires c κs = (c .before .before .before .before .before .before .before .before .before .before .before .before .pre .0, c .before .before .before .before .before .before .before .before .before .before .before .before .pre .1 .0 .1)
-
-by-sets-requires : tie.Need-by-sets-requires
-by-sets-requires c κs =
-    let one : 1 ≤ c .before .before .before .before .before .before .before .before .before .before .before .before .before .before .before .before .before .args .k = omega (arith, c .before .before .before .before .before .before .before .before .before .before .before .before .before .if2 .left) in
-    let made = event-sets _ _ _ _ _ _ _ _ _ _ _ (c .before .before .before .before .before .before .before .before .before .before .before .before .states .ensures .0) one (c .before .before .before .before .before .before .before .before .before .before .before .before .before .before .before .before .before .pre .1 .1 .0 .1) (c .before .before .before .before .before .before .before .before .before .before .before .before .before .before .before .before .before .pre .1 .1 .1) (c .before .before .before .before .before .before .before .before .before .before .before .rows .ensures) (c .before .before .before .before .before .before .before .before .before .gather-each .ensures) (c .before .before .before .before .before .before .offers-of .ensures) (c .before .before .before .before .allowed-of .ensures) in (
-      record {
-        framed = c .before .before .before .before .before .before .before .before .before .before .before .before .before .before .before .before .before .pre .0;
-        below = c .before .before .before .before .before .before .before .before .before .before .before .before .before .before .before .before .before .pre .1 .0 .1;
-        placed = c .before .before .before .before .before .before .before .before .before .before .before .before .before .before .before .before .before .pre .1 .1 .0 .0;
-        later = one;
-        last = c .before .before .before .before .before .before .before .before .before .before .before .before .before .before .before .before .before .pre .1 .1 .0 .1;
-        speaks = sym (c .before .before .before .before .before .before .before .before .before .before .before .before .before .before .before .concerned .ensures) ∙ not-false _ (c .before .before .before .before .before .before .before .before .before .before .before .before .before .before .if1 .left);
-        sets = made .0;
-      },
-      made .1,
-    )
-
-returns-3 : tie.Need-returns-3
-returns-3 c = c .by-sets .ensures
+returns-2 c = open-none _ _ _ (c .before .before .before .pre .1 .1 .0 .1) (c .before .before .before .pre .1 .1 .1 .0) _ (c .before .loop .inv) (c .loop-test .left)
 
 pub by-event-spec : {M : Type 1} → statement M
 by-event-spec =
     tie.close
     (tie.spec
-    concerned-requires
+    Inv-loop
+    μ-loop
+    loop-holds
+    lowest-requires
+    put-offers-requires
+    by-offers-requires
+    enum-told
     returns
-    by-row-requires
-    returns-2
-    states-requires
-    rows-requires
-    gather-each-requires
-    offers-of-requires
-    allowed-of-requires
-    by-sets-requires
-    returns-3)
+    enum-told-2
+    drop-lowest-requires
+    loop-less
+    loop-again
+    returns-2)

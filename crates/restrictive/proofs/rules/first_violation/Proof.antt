@@ -1,81 +1,58 @@
-use Prim.Native.Nat.{_≤_, _-_}
-use mathlib.Core.Path.{_≡_, refl, sym}
-use mathlib.Core.Option.{none}
+use mathlib.Core.Path.{refl, sym, _∙_}
 use native.Mathlib.Omega.{arith}
-use borrow.Author.Needs.{needs}
 use Rattle.bounded.specs.Search.{first}
-use Rattle.bounded.proofs.Search.{first-done}
 use Rattle.restrictive.specs.Answers.{shows}
 use Rattle.restrictive.specs.Verdict.{rule-violation, first-violation}
+use Rattle.restrictive.proofs.Sameness.{no-events}
 use Rattle.restrictive.proofs.Scans.{found-first, nothing-more}
-use Rattle.restrictive.proofs.Answering.{record-sets}
+use borrow.Author.Needs.{needs}
 use Rattle.restrictive.proofs.rules.first_violation.Statement.{statement}
 use Rattle.restrictive.proofs.rules.first_violation.Tie as tie
 
-abbrev Inv-loop : tie.InvT-loop
-Inv-loop b n own closure classes k₀ k = (k ≤ 5) × (first k (rule-violation b) ≡ none)
+events-requires : tie.Need-events-requires
+events-requires c κs = search needs
 
-abbrev μ-loop : tie.MeasureT-loop
-μ-loop b n own closure classes k₀ k = 5 - k
+returns : tie.Need-returns
+unfolding shows
+returns c = sym (no-events _ (sym (c .before .events .ensures .0) ∙ c .if1 .taken))
 
-states-requires : tie.Need-states-requires Inv-loop μ-loop
-states-requires c κs = omega arith
+spoken-requires : tie.Need-spoken-requires
+spoken-requires c κs = search needs
 
-singles-requires : tie.Need-singles-requires Inv-loop μ-loop
-singles-requires c κs = (c .before .before .pre .0, c .before .before .pre .1 .1)
+array-read-rule-1 : tie.Need-array-read-rule-1
+array-read-rule-1 c = search needs
 
-closure-requires : tie.Need-closure-requires Inv-loop μ-loop
-closure-requires c κs = c .before .before .before .pre .0
+rule-1-requires : tie.Need-rule-1-requires
+rule-1-requires c κs = (c .before .before .before .before .pre .0, (c .before .before .before .before .pre .1 .0, c .spoken .ensures 0 (omega arith)))
 
-gather-each-requires : tie.Need-gather-each-requires Inv-loop μ-loop
-gather-each-requires c κs = omega arith
-
-loop-holds : tie.Need-loop-holds Inv-loop μ-loop
-unfolding first
-loop-holds c = (omega arith, refl)
-
-by-rule-requires : tie.Need-by-rule-requires Inv-loop μ-loop
-by-rule-requires c κs = (c .before .before .before .before .before .before .before .before .before .before .before .before .pre .0, (c .before .before .before .before .before .before .before .before .before .before .before .before .pre .1, (omega arith, record-sets _ _ _ _ _ (c .before .before .before .before .before .before .before .before .before .before .states .ensures .0) (c .before .before .before .before .before .before .before .before .closure .ensures) (c .before .before .before .before .before .before .before .before .before .singles .ensures) (c .before .before .before .before .before .gather-each .ensures))))
-
-enum-told : tie.Need-enum-told Inv-loop μ-loop
+enum-told : tie.Need-enum-told
 enum-told c = search needs
 
-returns : tie.Need-returns Inv-loop μ-loop
-unfolding first-violation
-returns c = found-first (rule-violation _) (c .before .before .before .before .before .before .before .loop .k) _ (c .before .before .by-rule .ensures) (c .before .before .before .before .before .before .before .loop .inv .1) _ _ (c .enum-told .given .1) (omega arith)
+returns-2 : tie.Need-returns-2
+unfolding first-violation first
+returns-2 c = found-first (rule-violation _) 0 _ (c .before .before .rule-1 .ensures) refl 5 _ (c .enum-told .given .1) (omega arith)
 
-enum-told-2 : tie.Need-enum-told-2 Inv-loop μ-loop
+enum-told-2 : tie.Need-enum-told-2
 enum-told-2 c = search needs
 
-add-k : tie.Need-add-k Inv-loop μ-loop
-add-k c = omega arith
+rules-from-2-requires : tie.Need-rules-from-2-requires
+unfolding first
+rules-from-2-requires c κs = (c .before .before .before .before .before .before .before .before .pre .0, (c .before .before .before .before .before .before .before .before .pre .1, (c .before .before .before .before .spoken .ensures, nothing-more (rule-violation _) 0 _ (c .before .before .before .rule-1 .ensures) refl (c .before .enum-told2 .given .1))))
 
-loop-less : tie.Need-loop-less Inv-loop μ-loop
-loop-less c = omega arith
-
-loop-again : tie.Need-loop-again Inv-loop μ-loop
-loop-again c = (omega arith, nothing-more (rule-violation _) (c .before .before .before .before .before .before .before .loop .k) _ (c .before .before .by-rule .ensures) (c .before .before .before .before .before .before .before .loop .inv .1) (c .enum-told2 .given .1))
-
-returns-2 : tie.Need-returns-2 Inv-loop μ-loop
-unfolding shows first-violation
-returns-2 c = sym (first-done (rule-violation _) _ _ (omega arith) (c .before .loop .inv .1))
+returns-3 : tie.Need-returns-3
+returns-3 c = search needs
 
 pub first-violation-spec : {M : Type 1} → statement M
 first-violation-spec =
     tie.close
     (tie.spec
-    Inv-loop
-    μ-loop
-    states-requires
-    singles-requires
-    closure-requires
-    gather-each-requires
-    loop-holds
-    by-rule-requires
-    enum-told
+    events-requires
     returns
+    spoken-requires
+    array-read-rule-1
+    rule-1-requires
+    enum-told
+    returns-2
     enum-told-2
-    add-k
-    loop-less
-    loop-again
-    returns-2)
+    rules-from-2-requires
+    returns-3)

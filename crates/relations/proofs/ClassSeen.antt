@@ -1,0 +1,104 @@
+-- A loop over the states that keeps the classes it has seen: whether two states share one, and the first word of each. Assumes nothing.
+use Prim.Native.Nat.{ℕ, _+_, _<_}
+use mathlib.Core.Path.{_≡_, refl, sym, ap, _∙_, subst}
+use mathlib.Core.Bool.{true, false, _||_, or-true}
+use mathlib.Core.List.{List}
+use native.Mathlib.Decide.{decLt}
+use native.Mathlib.Omega.{arith}
+use lib.ListN.{length, getD, set}
+use lib.Dec.{eqb}
+use borrow.Author.Tests.{eqb-true, eq-eqb}
+use Rattle.bounded.proofs.Search.{or-now, true-not-false}
+use Rattle.words.specs.Sets.{bit, union, single}
+use Rattle.words.proofs.Sets.{bit-single, bit-union}
+use Rattle.part.specs.Record.{states, class}
+use Rattle.relations.specs.Relations.{same-class}
+use Rattle.relations.specs.Sets.{ClassesBelow, Alone, Even}
+use Rattle.relations.proofs.ClassRows.{ByClass, by-class-put}
+
+-- What holds below n and at n holds below n + 1.
+last-too : {A : ℕ → Type 0} (n : ℕ) → ((u : ℕ) → u < n → A u) → A n → (u : ℕ) → u < n + 1 → A u
+last-too {A} n f here u h = elim (decLt u n) [ yes l ↦ f u l | no l ↦ let e : n ≡ u = omega arith in subst A e here ]
+
+module _ (b : List ℕ) where
+  -- The word has the classes of the first n states.
+  abbrev pub Seen : ℕ → ℕ → Type 0
+  Seen n x = (u : ℕ) → u < n → bit x (class b u) ≡ true
+
+  pub seen-none : (x : ℕ) → Seen 0 x
+  seen-none x u h = absurd (omega arith)
+
+  pub seen-kept : (n k x : ℕ) → k ≡ class b n → bit x k ≡ true → Seen n x → Seen (n + 1) x
+  seen-kept n k x of-class e before = last-too n before (rw (← of-class) e)
+
+  pub seen-more : (n k x y : ℕ) → k ≡ class b n → y ≡ union x (single k) → Seen n x → Seen (n + 1) y
+  seen-more n k x y of-class more before =
+      let either : (c : ℕ) → bit y c ≡ (bit x c || eqb k c) = λ c. rw (more, bit-union x (single k) c, bit-single k c) refl in
+      last-too n (λ u h. either (class b u) ∙ or-now (bit x (class b u)) (eqb k (class b u)) (before u h))
+      (either (class b n) ∙ rw (eq-eqb k (class b n) of-class) (or-true (bit x (class b n))))
+
+  -- No earlier state has a class that is not seen.
+  unseen : (n k x : ℕ) → bit x k ≡ false → Seen n x → (u : ℕ) → u < n → class b u ≡ k → ⊥
+  unseen n k x e before u h q = true-not-false (before u h) (rw q e)
+
+  -- ---- no two states share a class
+
+  -- Of the first n states, whose classes are in the word x.
+  pub record Apart (n x : ℕ) : Type 0 where
+    pub seen : Seen n x
+    pub apart : (s u : ℕ) → s < n → u < n → class b u ≡ class b s → u ≡ s
+
+  pub apart-none : (x : ℕ) → Apart 0 x
+  apart-none x = record { seen = seen-none x; apart = λ s u h l e. absurd (omega arith) }
+
+  pub apart-more : (n k x y : ℕ) → k ≡ class b n → bit x k ≡ false → y ≡ union x (single k) → Apart n x → Apart (n + 1) y
+  apart-more n k x y of-class new more before =
+      let none = unseen n k x new (before .seen) in
+      record {
+        seen = seen-more n k x y of-class more (before .seen);
+        apart = λ s u h l e.
+            elim (decLt s n) [
+              | yes i ↦
+                  elim (decLt u n) [
+                    | yes j ↦ before .apart s u i j e
+                    | no j ↦ let q : u ≡ n = omega arith in absurd (none s i (sym e ∙ ap (class b) q ∙ sym of-class))
+                  ]
+              | no i ↦
+                  let q : s ≡ n = omega arith in
+                  elim (decLt u n) [ yes j ↦ absurd (none u j (e ∙ ap (class b) q ∙ sym of-class)) | no j ↦ omega arith ]
+            ];
+      }
+
+  pub apart-all : (n x : ℕ) → n ≡ states b → Apart n x → Alone b
+  unfolding same-class
+  apart-all n x e before s u h l same = before .apart s u (omega arith) (omega arith) (eqb-true _ _ same)
+
+-- ---- the states of a class have the same word
+
+-- The word of each of the first n states of class c is y.
+abbrev Same : List ℕ → List ℕ → ℕ → ℕ → ℕ → Type 0
+Same b words n c y = (u : ℕ) → u < n → class b u ≡ c → getD words u 0 ≡ y
+
+abbrev pub Firsts : List ℕ → List ℕ → ℕ → List ℕ → Type 0
+Firsts b words = ByClass (λ n c y. Same b words n c y)
+
+module _ (b words : List ℕ) where
+  pub firsts-none : (firsts : List ℕ) → length firsts ≡ 64 → Firsts b words 0 firsts
+  firsts-none firsts e = record { size = e; rows = λ c h u l. absurd (omega arith) }
+
+  -- Any word may stand for a class that is not seen.
+  pub firsts-put : (n k x y : ℕ) (firsts : List ℕ) → k < 64 → bit x k ≡ false → Seen b n x → Firsts b words n firsts → Firsts b words n (set firsts k y)
+  firsts-put n k x y firsts small new seen before =
+      by-class-put (λ m c z. Same b words m c z) n n k y firsts small before (λ u h q. absurd (unseen b n k x new seen u h q)) (λ c d z h. h)
+
+  -- The state n has the word of its class.
+  pub firsts-more : (n k : ℕ) (firsts : List ℕ) → k ≡ class b n → getD firsts k 0 ≡ getD words n 0 → Firsts b words n firsts → Firsts b words (n + 1) firsts
+  firsts-more n k firsts of-class e before = record {
+    size = before .size;
+    rows = λ c h. last-too n (before .rows c h) (λ q. sym e ∙ ap (λ (d : ℕ). getD firsts d 0) (of-class ∙ q));
+  }
+
+  pub firsts-even : (n : ℕ) (firsts : List ℕ) → n ≡ states b → ClassesBelow b → Firsts b words n firsts → Even b words
+  unfolding same-class
+  firsts-even n firsts e below before s u h l same =
+      let at = before .rows (class b s) (below s h) in at u (omega arith) (eqb-true _ _ same) ∙ sym (at s (omega arith) refl)

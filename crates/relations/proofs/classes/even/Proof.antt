@@ -1,0 +1,127 @@
+use Prim.Native.Nat.{_≤_, _<_, _+_, _-_}
+use mathlib.Core.Path.{refl, sym, ap, _∙_}
+use mathlib.Core.Logic.{⊎-elim}
+use denote.Ref.{now}
+use native.Mathlib.Omega.{arith}
+use borrow.Author.Needs.{needs}
+use borrow.Author.Tests.{not-true, not-false}
+use Rattle.bounded.proofs.Search.{true-not-false}
+use Rattle.words.specs.Sets.{union}
+use Rattle.relations.proofs.ClassSeen.{Seen, seen-none, seen-kept, seen-more, Firsts, firsts-none, firsts-put, firsts-more, firsts-even}
+use Rattle.relations.proofs.classes.even.Statement.{statement}
+use Rattle.relations.proofs.classes.even.Tie as tie
+
+abbrev Inv-loop : tie.InvT-loop
+Inv-loop b words n firsts₀ seen₀ s₀ firsts seen s = (s ≤ n) × Seen b s seen × Firsts b words s firsts
+
+abbrev μ-loop : tie.MeasureT-loop
+μ-loop b words n firsts₀ seen₀ s₀ firsts seen s = n - s
+
+states-requires : tie.Need-states-requires Inv-loop μ-loop
+states-requires c κs = search needs
+
+loop-holds : tie.Need-loop-holds Inv-loop μ-loop
+loop-holds c = (omega arith, seen-none _ _, firsts-none _ (now (c .before .before .before .args .words)) _ (c .firsts .given .0 .1))
+
+class-requires : tie.Need-class-requires Inv-loop μ-loop
+class-requires c κs = search needs
+
+-- The class of a state is below 64.
+small : (c : tie.After-class Inv-loop μ-loop) → c .class .result < 64
+small c = omega (arith, c .before .before .before .before .before .before .pre .1 (c .before .before .loop .s) (omega arith))
+
+contains-requires : tie.Need-contains-requires Inv-loop μ-loop
+contains-requires c κs = small c
+
+mul-firsts : tie.Need-mul-firsts Inv-loop μ-loop
+mul-firsts c = omega arith
+
+element-copy-out-firsts : tie.Need-element-copy-out-firsts Inv-loop μ-loop
+element-copy-out-firsts c = omega arith
+
+mul-firsts-2 : tie.Need-mul-firsts-2 Inv-loop μ-loop
+mul-firsts-2 c = omega arith
+
+slice-write-firsts : tie.Need-slice-write-firsts Inv-loop μ-loop
+slice-write-firsts c = omega (arith, small (c .before .before .before))
+
+single-requires : tie.Need-single-requires Inv-loop μ-loop
+single-requires c κs = small (c .before .before .before)
+
+union-requires : tie.Need-union-requires Inv-loop μ-loop
+union-requires c κs = search needs
+
+-- Where the arms of the first test meet, the class of the state has been seen.
+ready : (c : tie.Joined1 Inv-loop μ-loop) → let args = c .before .before .before .before .before .before .before .before .args in
+    let s = c .before .before .before .before .loop .s in
+    Seen (now (args .b)) (s + 1) (c .if1 .seen) × Firsts (now (args .b)) (now (args .words)) s (c .if1 .firsts)
+ready c =
+    let words = now (c .before .before .before .before .before .before .before .before .args .words) in
+    let of-class = c .before .before .class .ensures .0 in
+    let (_, seen, firsts) = c .before .before .before .before .loop .inv in
+    let has = sym (c .before .contains .ensures) in
+    ⊎-elim
+    (λ w. (
+      seen-more _ _ _ _ _ of-class (w .5 ∙ w .3 .ensures ∙ ap (union _) (w .2 .ensures)) seen,
+      rw (w .4) (firsts-put _ words _ _ _ _ _ (small (c .before .before)) (has ∙ not-true _ (w .0 .taken)) seen firsts),
+    ))
+    (λ w. (rw (w .2) (seen-kept _ _ _ _ of-class (has ∙ not-false _ (w .0 .left)) seen), rw (w .1) firsts))
+    (c .if1 .came)
+
+mul-if2 : tie.Need-mul-if2 Inv-loop μ-loop
+mul-if2 c = omega arith
+
+slice-read-if2 : tie.Need-slice-read-if2 Inv-loop μ-loop
+slice-read-if2 c = omega (arith, small (c .before .before .before), ready (c .before) .1 .size)
+
+mul-if2-2 : tie.Need-mul-if2-2 Inv-loop μ-loop
+mul-if2-2 c = omega arith
+
+element-copy-out-if2 : tie.Need-element-copy-out-if2 Inv-loop μ-loop
+element-copy-out-if2 c = omega arith
+
+returns : tie.Need-returns Inv-loop μ-loop
+returns c = λ e. absurd (true-not-false e refl)
+
+add-s : tie.Need-add-s Inv-loop μ-loop
+add-s c = omega arith
+
+loop-less : tie.Need-loop-less Inv-loop μ-loop
+loop-less c = omega arith
+
+loop-again : tie.Need-loop-again Inv-loop μ-loop
+loop-again c =
+    let met = c .before .before .before in
+    let words = now (met .before .before .before .before .before .before .before .before .args .words) in
+    (omega arith, ready met .0, firsts-more _ words _ _ _ (met .before .before .class .ensures .0) (c .if2 .left) (ready met .1))
+
+returns-2 : tie.Need-returns-2 Inv-loop μ-loop
+returns-2 c =
+    let start = c .before .before .before .before .before in
+    λ e. firsts-even _ (now (start .args .words)) _ _ (omega arith) (start .pre .1) (c .before .loop .inv .2)
+
+pub even-spec : {M : Type 1} → statement M
+even-spec =
+    tie.close
+    (tie.spec
+    Inv-loop
+    μ-loop
+    states-requires
+    loop-holds
+    class-requires
+    contains-requires
+    mul-firsts
+    element-copy-out-firsts
+    mul-firsts-2
+    slice-write-firsts
+    single-requires
+    union-requires
+    mul-if2
+    slice-read-if2
+    mul-if2-2
+    element-copy-out-if2
+    returns
+    add-s
+    loop-less
+    loop-again
+    returns-2)

@@ -1,0 +1,82 @@
+use Prim.Native.Nat.{_≤_, _<_, _-_}
+use mathlib.Core.Path.{_≡_, ap, _∙_}
+use native.Mathlib.Omega.{arith}
+use borrow.Author.Needs.{needs}
+use Rattle.words.specs.Sets.{union}
+use Rattle.part.specs.Record.{states}
+use Rattle.relations.proofs.ClassRows.{Listed, listed-none, listed-more}
+use Rattle.relations.proofs.classes.put_members.Statement.{statement}
+use Rattle.relations.proofs.classes.put_members.Tie as tie
+
+abbrev Inv-loop : tie.InvT-loop
+Inv-loop b n sets₀ s₀ sets s = (s ≤ n) × Listed b s sets
+
+abbrev μ-loop : tie.MeasureT-loop
+μ-loop b n sets₀ s₀ sets s = n - s
+
+states-requires : tie.Need-states-requires Inv-loop μ-loop
+states-requires c κs = search needs
+
+loop-holds : tie.Need-loop-holds Inv-loop μ-loop
+loop-holds c = (omega arith, listed-none _ _ (c .before .before .before .pre .1 .1))
+
+class-requires : tie.Need-class-requires Inv-loop μ-loop
+class-requires c κs = search needs
+
+-- The class of a state is below 64.
+small : (c : tie.After-class Inv-loop μ-loop) → c .class .result < 64
+small c = omega (arith, c .before .before .before .before .before .before .pre .1 .0 (c .before .before .loop .s) (omega arith))
+
+mul-union : tie.Need-mul-union Inv-loop μ-loop
+mul-union c = omega arith
+
+slice-read-union : tie.Need-slice-read-union Inv-loop μ-loop
+slice-read-union c = omega (arith, small (c .before))
+
+single-requires : tie.Need-single-requires Inv-loop μ-loop
+single-requires c κs = omega arith
+
+union-requires : tie.Need-union-requires Inv-loop μ-loop
+union-requires c κs = search needs
+
+mul-sets : tie.Need-mul-sets Inv-loop μ-loop
+mul-sets c = omega arith
+
+slice-write-sets : tie.Need-slice-write-sets Inv-loop μ-loop
+slice-write-sets c = omega (arith, small (c .before .before .before))
+
+add-s : tie.Need-add-s Inv-loop μ-loop
+add-s c = omega arith
+
+loop-less : tie.Need-loop-less Inv-loop μ-loop
+loop-less c = omega arith
+
+loop-again : tie.Need-loop-again Inv-loop μ-loop
+loop-again c =
+    let read = c .before .before .before in (
+      omega arith,
+      listed-more _ _ _ (c .union .result) _ (read .class .ensures .0) (small read) (c .union .ensures ∙ ap (union _) (c .before .single .ensures)) (read .before .before .loop .inv .1),
+    )
+
+returns : tie.Need-returns Inv-loop μ-loop
+returns c = let e : c .before .loop .s ≡ states (c .before .before .before .before .before .args .b .now) = omega arith in rw e at (c .before .loop .inv .1 .rows)
+
+pub put-members-spec : {M : Type 1} → statement M
+put-members-spec =
+    tie.close
+    (tie.spec
+    Inv-loop
+    μ-loop
+    states-requires
+    loop-holds
+    class-requires
+    mul-union
+    slice-read-union
+    single-requires
+    union-requires
+    mul-sets
+    slice-write-sets
+    add-s
+    loop-less
+    loop-again
+    returns)

@@ -1,0 +1,69 @@
+// The events of a record: which of them a rule speaks of, and where one leads.
+ghost use mathlib.Core.Path.{_≡_};
+ghost use Prim.Native.Nat.{ℕ, _<_};
+ghost use lib.ListN.{getD};
+ghost use Rattle.part.specs.Record.{events, Framed};
+ghost use Rattle.relations.specs.Sets.{own-rule, rule-of, Spoken, LookedUp};
+use level::Level;
+use part::Part;
+use words::set;
+
+// The one of the rules 2 to 5, less one, that speaks of an event: a high or low input, a high or low other event.
+fn own_rule(input: bool, low: bool) -> usize
+    ensures { λ r. ⌜ r ≡ own-rule input low ⌝ }
+{
+    if input {
+        if low {
+            return 2;
+        }
+        return 1;
+    }
+    if low {
+        return 4;
+    }
+    3
+}
+
+// The same of the event at place i.
+fn rule_of(b: &[u8], i: usize) -> usize
+    requires { ⌜ Framed (now b) ⌝ }
+    requires { ⌜ i < events (now b) ⌝ }
+    ensures { λ r. ⌜ r ≡ rule-of (now (b .entry)) i ⌝ }
+{
+    let input = Part::event_kind(b, i) == 0;
+    let low = Level::is_low(Part::observer(b), Part::level(b, i));
+    own_rule(input, low)
+}
+
+// The set of the events that each rule speaks of.
+pub fn spoken(b: &[u8]) -> [u64; 5]
+    requires { ⌜ Framed (now b) ⌝ }
+    ensures { λ r. ⌜ ((k : ℕ) → k < 5 → Spoken (now (b .entry)) k (getD r k 0)) ⌝ }
+{
+    let m = Part::events(b);
+    let mut sets = [0u64; 5];
+    let mut i = 0;
+    while i < m {
+        let k = rule_of(b, i);
+        sets[k] = set::union(sets[k], set::single(i));
+        i += 1;
+    }
+    sets[0] = set::union(sets[1], sets[2]);
+    sets
+}
+
+// Over out: of each state, what the event at place i leads to, looked up in the table.
+pub fn look_up(out: &mut [u64; 64], b: &[u8], i: usize, table: &[u64; 64])
+    requires { ⌜ Framed (now b) ⌝ }
+    requires { ⌜ i < events (now b) ⌝ }
+    ensures { λ _. ⌜ LookedUp (now (b .entry)) i (now (table .entry)) (now (out .exit)) ⌝ }
+{
+    let n = Part::states(b);
+    let at = Part::rows(b, i);
+    let words = &mut out[..];
+    let mut s = 0;
+    while s < n {
+        words[s] = set::gather(Part::row_from(b, at, i, s), table);
+        s += 1;
+    }
+}
