@@ -1,0 +1,81 @@
+//! Files in and out, and what goes wrong with them.
+
+use std::fs::{self, File};
+use std::io::{self, Read, Write};
+use std::path::Path;
+
+use desk::part::{Part, Table};
+use desk::{reader, record};
+
+/// The exit status where a file or a verdict line is not as expected.
+pub const CONTENT: i32 = 1;
+
+/// The exit status where the command line is wrong or a file cannot be read or written.
+pub const USAGE: i32 = 2;
+
+/// Of a record so many bytes are read, as by the program `verdict`. No well-formed record is longer.
+const MAX_RECORD: u64 = 65_536;
+
+/// No table needs more.
+const MAX_TEXT: u64 = 16 << 20;
+
+pub struct Trouble {
+    pub status: i32,
+    pub message: String,
+}
+
+impl Trouble {
+    pub fn new(status: i32, message: String) -> Trouble {
+        Trouble { status, message }
+    }
+}
+
+/// Up to `most` bytes of a file, and whether there are more.
+fn bytes(path: &Path, most: u64) -> Result<(Vec<u8>, bool), Trouble> {
+    let mut bytes = Vec::new();
+    let read = File::open(path).and_then(|file| file.take(most + 1).read_to_end(&mut bytes));
+    read.map_err(|why| Trouble::new(USAGE, format!("part: cannot read {}: {why}", path.display())))?;
+    let more = bytes.len() as u64 > most;
+    bytes.truncate(most as usize);
+    Ok((bytes, more))
+}
+
+/// The table in a text file.
+pub fn table(path: &Path) -> Result<Table, Trouble> {
+    let (bytes, more) = bytes(path, MAX_TEXT)?;
+    if more {
+        return Err(Trouble::new(CONTENT, format!("{}: expected at most {MAX_TEXT} bytes", path.display())));
+    }
+    reader::read(&bytes).map_err(|fault| Trouble::new(CONTENT, format!("{}:{fault}", path.display())))
+}
+
+/// The part in a record file.
+pub fn record(path: &Path) -> Result<Part, Trouble> {
+    let (bytes, more) = bytes(path, MAX_RECORD)?;
+    let note = if more { format!(" (only the first {MAX_RECORD} bytes are read)") } else { String::new() };
+    record::read(&bytes).map_err(|misfit| Trouble::new(CONTENT, format!("{}: {misfit}{note}", path.display())))
+}
+
+/// A record or a table, by the extension.
+pub fn either(path: &Path) -> Result<Table, Trouble> {
+    match path.extension().and_then(|extension| extension.to_str()) {
+        Some("part") => record(path).map(Table::unnamed),
+        Some("table") => table(path),
+        _ => Err(Trouble::new(USAGE, format!("part: {}: expected a name ending in .part or .table", path.display()))),
+    }
+}
+
+/// Writes to a file, or to standard output where there is none.
+pub fn write(path: Option<&Path>, bytes: &[u8]) -> Result<(), Trouble> {
+    let (written, place) = match path {
+        Some(path) => (fs::write(path, bytes), path.display().to_string()),
+        None => (to_standard_output(bytes), "standard output".to_string()),
+    };
+    written.map_err(|why| Trouble::new(USAGE, format!("part: cannot write {place}: {why}")))
+}
+
+fn to_standard_output(bytes: &[u8]) -> io::Result<()> {
+    let mut out = io::stdout().lock();
+    out.write_all(bytes)?;
+    out.flush()
+}

@@ -1,0 +1,172 @@
+//! Draws a part as Graphviz DOT. A break is marked only where the caller gives the line of `verdict`.
+
+mod breaks;
+mod caption;
+mod dot;
+mod edges;
+mod nodes;
+
+use crate::part::Table;
+use crate::verdict::Verdict;
+
+/// Colours of low and high events. In grey print the line styles and the italics tell them apart.
+const LOW: &str = "#0b3d91";
+const HIGH: &str = "#c4400c";
+const FONT: &str = "Helvetica";
+
+/// The DOT text of a part. `title` stands over the legend; a verdict must fit the part.
+pub fn draw(table: &Table, title: &str, verdict: Option<&Verdict>) -> String {
+    let broken = match verdict {
+        Some(Verdict::Broken(named)) => Some(named),
+        _ => None,
+    };
+    let mut lines = vec!["digraph part {".to_string()];
+    lines.extend(settings(&caption::caption(table, title, verdict)));
+    // The start comes first: Graphviz then lays out the steps from there.
+    lines.extend(edges::start(&table.part));
+    lines.extend(nodes::clusters(table, broken));
+    lines.extend(edges::edges(table, broken));
+    lines.push("}".to_string());
+    lines.join("\n") + "\n"
+}
+
+fn settings(caption: &str) -> Vec<String> {
+    let graph = [("label", caption), ("labelloc", "b"), ("fontname", FONT), ("fontsize", "11")];
+    // Without newrank some Graphviz versions fail on clusters with many edges between them.
+    let layout = [("newrank", "true"), ("nodesep", "0.4"), ("ranksep", "0.5")];
+    let node =
+        [("shape", "circle"), ("fontname", FONT), ("fontsize", "12"), ("style", "filled"), ("fillcolor", "white")];
+    let edge = [("fontname", FONT), ("fontsize", "11"), ("arrowsize", "0.8")];
+    vec![
+        format!("  graph [{}];", dot::attributes(&graph)),
+        format!("  graph [{}];", dot::attributes(&layout)),
+        format!("  node [{}];", dot::attributes(&node)),
+        format!("  edge [{}];", dot::attributes(&edge)),
+    ]
+}
+
+#[cfg(test)]
+mod tests {
+    use super::*;
+    use crate::random::{self, Rng};
+    use crate::{reader, verdict};
+
+    /// Event 1 is a high input, 2 and 3 are low; 2 and 3 share the edge from a to b with 1.
+    const TABLE: &str = "part
+observer rank 1 compartments none
+states a b c
+start b
+classes {a b} {c}
+event 1 \"x<y\" input rank 2 compartments none
+  a -> b
+  b -> b
+event 2 output rank 1 compartments none
+  a -> b c
+event 3 internal rank 0 compartments none
+  a -> b
+";
+
+    fn drawn(text: &str, line: Option<&str>) -> String {
+        let table = reader::read(text.as_bytes()).unwrap();
+        let given = line.map(|line| verdict::read(line).unwrap());
+        if let Some(given) = &given {
+            verdict::fits(&table.part, given).unwrap();
+        }
+        draw(&table, "t & u.table", given.as_ref())
+    }
+
+    /// The drawing's line with this beginning; there must be exactly one.
+    fn line(dot: &str, beginning: &str) -> String {
+        let mut lines = dot.lines().filter(|line| line.trim_start().starts_with(beginning));
+        let found = lines.next().unwrap_or_else(|| panic!("no {beginning} in\n{dot}"));
+        assert_eq!(lines.next(), None);
+        found.trim().to_string()
+    }
+
+    #[test]
+    fn states_classes_and_start() {
+        let dot = drawn(TABLE, None);
+        assert!(dot.starts_with("digraph part {\n") && dot.ends_with("\n}\n"));
+        line(&dot, "subgraph cluster_0 {");
+        line(&dot, "subgraph cluster_1 {");
+        assert!(!dot.contains("cluster_2"));
+        assert!(line(&dot, "s2 [").contains("<TD>c</TD></TR><TR><TD><FONT POINT-SIZE=\"9\">2</FONT>"));
+        line(&dot, "start -> s1 [penwidth");
+        line(&dot, "start -> s0 [style=invis]");
+        assert!(
+            line(&dot, "graph [label=<").contains("<B>t &amp; u.table</B>, observer rank 1 compartments none (0x40)")
+        );
+        assert!(!dot.contains("missing") && !dot.contains("broken"));
+    }
+
+    #[test]
+    fn steps_of_two_states_share_an_edge() {
+        let dot = drawn(TABLE, None);
+        let both = line(&dot, "s0 -> s1 [");
+        assert!(both.contains("color=\"#0b3d91:transparent:#c4400c\""));
+        assert!(both.contains("&#160;!2, τ3&#160;") && both.contains("<I>&#160;?1 x&lt;y&#160;</I>"));
+        let low = line(&dot, "s0 -> s2 [");
+        assert!(low.contains("style=\"solid\", color=\"#0b3d91\""));
+        let high = line(&dot, "s1 -> s1 [");
+        assert!(high.contains("style=\"dashed\", color=\"#c4400c\""));
+    }
+
+    #[test]
+    fn a_break_of_rule_1() {
+        let dot = drawn(TABLE, Some("rule 1 event 1 from 2 to 0 other 0"));
+        assert!(line(&dot, "s2 [").contains("<B> s </B>"));
+        assert!(!line(&dot, "s0 [").contains("black"));
+        assert!(line(&dot, "missing [").contains("✗ no step by ?1 x&lt;y"));
+        line(&dot, "s2 -> missing [");
+        assert!(dot.contains("Rule 1 is broken: the high input 1 &quot;x&lt;y&quot; has no step from s (state 2, c);"));
+    }
+
+    #[test]
+    fn a_break_of_rule_2() {
+        let split = TABLE.replace("{a b} {c}", "{a} {b c}");
+        let dot = drawn(&split, Some("rule 2 event 1 from 0 to 1 other 0"));
+        let edges: Vec<&str> = dot.lines().filter(|line| line.starts_with("  s0 -> s1 [")).collect();
+        assert_eq!(edges.len(), 2);
+        assert!(edges[0].contains("!2, τ3") && !edges[0].contains("penwidth"));
+        assert!(edges[1].contains("?1 x&lt;y") && edges[1].contains("penwidth=\"3.5\""));
+        assert!(line(&dot, "s0 [").contains("<B> s </B>") && line(&dot, "s1 [").contains("<B> t </B>"));
+        assert!(!dot.contains("missing"));
+    }
+
+    #[test]
+    fn a_break_of_rule_5() {
+        let dot = drawn(TABLE, Some("rule 5 event 2 from 0 to 1 other 1"));
+        assert!(line(&dot, "s1 [").contains("<B> t, u </B>"));
+        assert!(line(&dot, "missing [").contains("✗ no answer to !2"));
+        line(&dot, "s1 -> missing [");
+    }
+
+    #[test]
+    fn a_pass_marks_nothing() {
+        let dot = drawn(TABLE, Some("pass"));
+        assert!(dot.contains("The verdict given: pass."));
+        assert!(!dot.contains("missing") && !dot.contains("3.5"));
+    }
+
+    /// Is this line an edge between two states?
+    fn is_step(line: &str) -> bool {
+        let from = line.strip_prefix("  s").is_some_and(|rest| rest.starts_with(|c: char| c.is_ascii_digit()));
+        from && line.contains(" -> s")
+    }
+
+    /// An edge for each two states with a step, a node for each state, a cluster for each class.
+    #[test]
+    fn random_parts_have_all_their_pieces() {
+        let mut rng = Rng::new(6);
+        for _ in 0..300 {
+            let part = random::part(&mut rng);
+            let dot = draw(&Table::unnamed(part.clone()), "x", None);
+            let count = |test: fn(&str) -> bool| dot.lines().filter(|line| test(line)).count();
+            let n = part.state_count();
+            let pairs = (0..n * n).filter(|i| part.events.iter().any(|event| event.leads(i / n, i % n))).count();
+            assert_eq!(count(is_step), pairs);
+            assert_eq!(count(|line| line.starts_with("    s")), n);
+            assert_eq!(count(|line| line.contains("subgraph cluster_")), part.groups().len());
+        }
+    }
+}

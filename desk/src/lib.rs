@@ -1,0 +1,15 @@
+//! The desk tool: tables of parts as text, as records, compared and drawn.
+//! It is outside the proved core and decides no verdict.
+
+pub mod diff;
+pub mod draw;
+pub mod level;
+pub mod part;
+pub mod reader;
+pub mod record;
+pub mod tokens;
+pub mod verdict;
+pub mod writer;
+
+#[cfg(test)]
+mod random;

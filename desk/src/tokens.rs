@@ -1,0 +1,251 @@
+//! Splits a table's text into tokens, each with its line and column (both from 1, a column is a character).
+
+use std::fmt;
+
+#[derive(Clone, Copy, PartialEq, Eq, Debug)]
+pub struct Place {
+    pub line: usize,
+    pub column: usize,
+}
+
+/// What is wrong with a text, and where.
+#[derive(Clone, PartialEq, Eq, Debug)]
+pub struct Fault {
+    pub place: Place,
+    pub message: String,
+}
+
+impl fmt::Display for Fault {
+    fn fmt(&self, f: &mut fmt::Formatter) -> fmt::Result {
+        write!(f, "{}:{}: {}", self.place.line, self.place.column, self.message)
+    }
+}
+
+#[derive(Clone, PartialEq, Eq, Debug)]
+pub enum What {
+    /// ASCII letters, digits and `_`: a keyword, a number or a name.
+    Word(String),
+    /// A name in quotes, without them.
+    Quoted(String),
+    Open,
+    Close,
+    Arrow,
+    /// Stands once at the end of each line that has a token.
+    LineEnd,
+    FileEnd,
+    /// No token: what is wrong. Told only when a reader comes to it.
+    Bad(String),
+}
+
+#[derive(Clone, PartialEq, Eq, Debug)]
+pub struct Token {
+    pub what: What,
+    pub place: Place,
+}
+
+impl fmt::Display for What {
+    fn fmt(&self, f: &mut fmt::Formatter) -> fmt::Result {
+        match self {
+            What::Word(word) => write!(f, "'{word}'"),
+            What::Quoted(name) => write!(f, "the quoted name \"{name}\""),
+            What::Open => write!(f, "'{{'"),
+            What::Close => write!(f, "'}}'"),
+            What::Arrow => write!(f, "'->'"),
+            What::LineEnd => write!(f, "the end of the line"),
+            What::FileEnd => write!(f, "the end of the file"),
+            What::Bad(message) => write!(f, "{message}"),
+        }
+    }
+}
+
+/// Marks that show text in another order than it stands in the file.
+fn reorders(c: char) -> bool {
+    matches!(c, '\u{061C}' | '\u{200E}' | '\u{200F}' | '\u{202A}'..='\u{202E}' | '\u{2066}'..='\u{2069}')
+}
+
+fn hidden(c: char) -> bool {
+    (c.is_control() && c != '\t') || reorders(c)
+}
+
+fn in_word(c: char) -> bool {
+    c.is_alphanumeric() || c == '_'
+}
+
+/// One line's characters and the next to read.
+struct Line<'a> {
+    chars: &'a [char],
+    next: usize,
+}
+
+impl Line<'_> {
+    fn here(&self) -> Option<char> {
+        self.chars.get(self.next).copied()
+    }
+
+    /// Takes characters while a test holds.
+    fn take(&mut self, test: fn(char) -> bool) -> String {
+        let from = self.next;
+        while self.here().is_some_and(test) {
+            self.next += 1;
+        }
+        self.chars[from..self.next].iter().collect()
+    }
+
+    /// Goes past blanks.
+    fn skip_blanks(&mut self) {
+        self.take(|c| c == ' ' || c == '\t');
+    }
+
+    /// Goes past one character and gives its token.
+    fn one(&mut self, what: What) -> What {
+        self.next += 1;
+        what
+    }
+
+    fn arrow(&mut self) -> What {
+        self.next += 1;
+        if self.here() == Some('>') {
+            return self.one(What::Arrow);
+        }
+        What::Bad("expected '->', found '-'".to_string())
+    }
+
+    /// A word; letters of other alphabets are taken with it, to name the whole word.
+    fn word(&mut self) -> What {
+        let word = self.take(in_word);
+        match word.is_ascii() {
+            true => What::Word(word),
+            false => What::Bad(format!("expected only the letters a to z and A to Z, digits and '_', found '{word}'")),
+        }
+    }
+
+    /// A name in quotes; the next character is the first quote.
+    fn quoted(&mut self) -> What {
+        self.next += 1;
+        let name = self.take(|c| c != '"');
+        if self.here().is_none() {
+            return What::Bad("expected '\"' at the end of this name, found the end of the line".to_string());
+        }
+        self.next += 1;
+        if name.trim().is_empty() {
+            return What::Bad("expected a name between the quotes, found none".to_string());
+        }
+        What::Quoted(name)
+    }
+
+    /// The token that begins at the next character.
+    fn token(&mut self, first: char) -> What {
+        match first {
+            '{' => self.one(What::Open),
+            '}' => self.one(What::Close),
+            '-' => self.arrow(),
+            '"' => self.quoted(),
+            c if in_word(c) => self.word(),
+            c => self.one(What::Bad(format!("expected a word, a number, '{{', '}}', '->' or '\"', found '{c}'"))),
+        }
+    }
+}
+
+/// The first character of a line that may not stand in a table.
+fn hidden_in(chars: &[char]) -> Option<(usize, String)> {
+    let at = chars.iter().position(|&c| hidden(c))?;
+    Some((at, format!("expected visible text, found the control character U+{:04X}", chars[at] as u32)))
+}
+
+/// The tokens of one line; a comment is none.
+fn line_tokens(number: usize, text: &str, tokens: &mut Vec<Token>) {
+    let chars: Vec<char> = text.chars().collect();
+    if let Some((at, message)) = hidden_in(&chars) {
+        tokens.push(Token { what: What::Bad(message), place: Place { line: number, column: at + 1 } });
+        return;
+    }
+    let mut line = Line { chars: &chars, next: 0 };
+    let mut any = false;
+    loop {
+        line.skip_blanks();
+        let place = Place { line: number, column: line.next + 1 };
+        match line.here() {
+            Some(first) if first != '#' => tokens.push(Token { what: line.token(first), place }),
+            _ if any => return tokens.push(Token { what: What::LineEnd, place }),
+            _ => return,
+        }
+        any = true;
+    }
+}
+
+/// The place behind a text's last character.
+fn end_of(text: &str) -> Place {
+    let last = text.rsplit('\n').next().unwrap_or("");
+    Place { line: text.matches('\n').count() + 1, column: last.chars().count() + 1 }
+}
+
+/// The place of the first byte that is not UTF-8; nothing where all are.
+pub fn not_text(bytes: &[u8]) -> Option<Fault> {
+    let at = std::str::from_utf8(bytes).err()?.valid_up_to();
+    let place = end_of(&String::from_utf8_lossy(&bytes[..at]));
+    Some(Fault { place, message: format!("expected text in UTF-8, found the byte 0x{:02X}", bytes[at]) })
+}
+
+/// All tokens of a text, `FileEnd` last.
+pub fn split(text: &str) -> Vec<Token> {
+    let text = text.strip_prefix('\u{FEFF}').unwrap_or(text);
+    let mut tokens = Vec::new();
+    for (i, line) in text.lines().enumerate() {
+        line_tokens(i + 1, line, &mut tokens);
+    }
+    tokens.push(Token { what: What::FileEnd, place: end_of(text) });
+    tokens
+}
+
+#[cfg(test)]
+mod tests {
+    use super::*;
+
+    fn word(word: &str) -> What {
+        What::Word(word.to_string())
+    }
+
+    fn at(line: usize, column: usize, what: What) -> Token {
+        Token { what, place: Place { line, column } }
+    }
+
+    #[test]
+    fn tokens_with_their_places() {
+        let tokens = split("a{0}\n\n# only a comment\n  0->1 \"é }\"#c\n");
+        let expected = [
+            at(1, 1, word("a")),
+            at(1, 2, What::Open),
+            at(1, 3, word("0")),
+            at(1, 4, What::Close),
+            at(1, 5, What::LineEnd),
+            at(4, 3, word("0")),
+            at(4, 4, What::Arrow),
+            at(4, 6, word("1")),
+            at(4, 8, What::Quoted("é }".to_string())),
+            at(4, 13, What::LineEnd),
+            at(5, 1, What::FileEnd),
+        ];
+        assert_eq!(tokens, expected);
+    }
+
+    #[test]
+    fn line_ends_of_other_systems() {
+        assert_eq!(
+            split("\u{FEFF}part\r\n"),
+            [at(1, 1, word("part")), at(1, 5, What::LineEnd), at(2, 1, What::FileEnd)]
+        );
+    }
+
+    #[test]
+    fn a_text_without_a_last_line_end() {
+        assert_eq!(split("part"), [at(1, 1, word("part")), at(1, 5, What::LineEnd), at(1, 5, What::FileEnd)]);
+        assert_eq!(split(""), [at(1, 1, What::FileEnd)]);
+    }
+
+    #[test]
+    fn the_place_of_a_byte_that_is_no_text() {
+        assert_eq!(not_text(b"part\nobserver"), None);
+        let fault = not_text(b"part\n\xC3\xA9b\xFF").unwrap();
+        assert_eq!(fault.to_string(), "2:3: expected text in UTF-8, found the byte 0xFF");
+    }
+}

@@ -1,0 +1,306 @@
+//! The line that the proved program `verdict` printed: read, held against the part it should be about, put in words.
+//! Nothing here decides a verdict.
+
+use crate::part::{Event, Kind, Part, Table};
+
+/// A break as the line names it.
+#[derive(Clone, Copy, PartialEq, Eq, Debug)]
+pub struct Break {
+    pub rule: usize,
+    pub event: u16,
+    pub s: usize,
+    pub t: usize,
+    pub u: usize,
+}
+
+#[derive(Clone, Copy, PartialEq, Eq, Debug)]
+pub enum Verdict {
+    Pass,
+    Refused(usize),
+    Broken(Break),
+}
+
+const FORMS: &str = "expected 'pass', 'refused N' or 'rule R event E from S to T other U'";
+
+/// Digits only, as `verdict` prints them.
+fn number(word: &str) -> Option<usize> {
+    let digits = !word.is_empty() && word.bytes().all(|byte| byte.is_ascii_digit());
+    if digits {
+        word.parse().ok()
+    } else {
+        None
+    }
+}
+
+fn broken(words: &[&str]) -> Option<Break> {
+    let &["rule", rule, "event", event, "from", s, "to", t, "other", u] = words else { return None };
+    let event = u16::try_from(number(event)?).ok()?;
+    let named = Break { rule: number(rule)?, event, s: number(s)?, t: number(t)?, u: number(u)? };
+    (1..=5).contains(&named.rule).then_some(named)
+}
+
+/// Reads the line of `verdict`.
+pub fn read(line: &str) -> Result<Verdict, String> {
+    let words: Vec<&str> = line.split_whitespace().collect();
+    let found = match words.as_slice() {
+        ["pass"] => Some(Verdict::Pass),
+        ["refused", refusal] => number(refusal).map(Verdict::Refused),
+        words => broken(words).map(Verdict::Broken),
+    };
+    found.ok_or_else(|| format!("{FORMS}, found '{}'", line.trim()))
+}
+
+/// Is a rule about events of this kind and level?
+fn concerns(rule: usize, event: &Event, low: bool) -> bool {
+    let input = event.kind == Kind::Input;
+    match rule {
+        1 => input,
+        2 => input && !low,
+        3 => input && low,
+        4 => !input && !low,
+        _ => !input && low,
+    }
+}
+
+fn high_or_low(low: bool) -> &'static str {
+    if low {
+        "low"
+    } else {
+        "high"
+    }
+}
+
+/// Does the part have what rule 1's line names?
+fn fits_rule_1(event: &Event, named: &Break) -> Result<(), String> {
+    if (named.t, named.u) != (0, 0) {
+        return Err("rule 1 names the states 0 as T and U".to_string());
+    }
+    if event.rows[named.s] != 0 {
+        return Err(format!("event {} has a step from state {}", named.event, named.s));
+    }
+    Ok(())
+}
+
+/// Does the part have what the line of a rule from 2 to 5 names?
+fn fits_step(part: &Part, event: &Event, named: &Break) -> Result<(), String> {
+    let Break { rule, event: identifier, s, t, u } = *named;
+    if !event.leads(s, t) {
+        return Err(format!("event {identifier} does not lead from state {s} to state {t}"));
+    }
+    if rule == 2 && u != 0 {
+        return Err("rule 2 names the state 0 as U".to_string());
+    }
+    if rule == 2 && part.same_class(s, t) {
+        return Err(format!("states {s} and {t} are in the same class"));
+    }
+    if rule > 2 && !part.same_class(s, u) {
+        return Err(format!("states {s} and {u} are in different classes"));
+    }
+    Ok(())
+}
+
+fn fits_break(part: &Part, named: &Break) -> Result<(), String> {
+    let Some(event) = part.event(named.event) else { return Err(format!("there is no event {}", named.event)) };
+    let last = part.state_count() - 1;
+    if let Some(state) = [named.s, named.t, named.u].into_iter().find(|&state| state > last) {
+        return Err(format!("there is no state {state}, the last is {last}"));
+    }
+    let low = part.is_low(event);
+    if !concerns(named.rule, event, low) {
+        let (rule, level, kind) = (named.rule, high_or_low(low), event.kind.word());
+        return Err(format!("rule {rule} is not about event {}, which is {level} and {kind}", named.event));
+    }
+    match named.rule {
+        1 => fits_rule_1(event, named),
+        _ => fits_step(part, event, named),
+    }
+}
+
+/// Could the line be about this part? Only what it names is looked up; whether it is right is not decided.
+pub fn fits(part: &Part, verdict: &Verdict) -> Result<(), String> {
+    let fit = match verdict {
+        Verdict::Pass => Ok(()),
+        Verdict::Refused(_) => Err("the file is a well-formed record or table".to_string()),
+        Verdict::Broken(named) => fits_break(part, named),
+    };
+    fit.map_err(|why| format!("the verdict line is not about this part: {why}"))
+}
+
+/// `the high input 7 "send"`; an internal event is called one.
+fn event_words(table: &Table, event: &Event) -> String {
+    let level = high_or_low(table.part.is_low(event));
+    let kind = match event.kind {
+        Kind::Internal => "internal event",
+        kind => kind.word(),
+    };
+    let name = table.names.event(event.identifier).map(|name| format!(" \"{name}\"")).unwrap_or_default();
+    format!("the {level} {kind} {}{name}", event.identifier)
+}
+
+/// `s (state 0, idle)`
+fn state_words(table: &Table, role: &str, state: usize) -> String {
+    let name = table.names.state(state).map(|name| format!(", {name}")).unwrap_or_default();
+    format!("{role} (state {state}{name})")
+}
+
+/// How the break comes about. The line must fit the part.
+fn broken_words(table: &Table, named: &Break) -> String {
+    let it = table.part.event(named.event).map(|event| event_words(table, event)).unwrap_or_default();
+    let s = state_words(table, "s", named.s);
+    let t = state_words(table, "t", named.t);
+    let u = state_words(table, "u", named.u);
+    match named.rule {
+        1 => format!("{it} has no step from {s}; inputs need a step from each state."),
+        2 => format!("{it} leads from {s} to {t}, which is outside the class of s."),
+        rule => {
+            let missing = match rule {
+                3 => "this input leads from u to no state of t's class",
+                4 => "quiet steps lead from u to no state of t's class, and u itself is not in it",
+                _ => "quiet steps, this event and quiet steps lead from u to no state of t's class",
+            };
+            format!("{it} leads from {s} to {t}. But {u} is in the class of s, and {missing}.")
+        }
+    }
+}
+
+/// A verdict in words. The line must fit the part.
+pub fn words(table: &Table, verdict: &Verdict) -> String {
+    match verdict {
+        Verdict::Pass => "The verdict given: pass.".to_string(),
+        Verdict::Refused(number) => format!("The verdict given: refused {number}."),
+        Verdict::Broken(named) => format!("Rule {} is broken: {}", named.rule, broken_words(table, named)),
+    }
+}
+
+#[cfg(test)]
+mod tests {
+    use super::*;
+    use crate::reader;
+
+    /// Event 1 is a high input, 2 a low one, 3 a high output, 4 a low one, 5 a low internal event.
+    const TABLE: &str = "part
+observer rank 1 compartments none
+states a b c
+start a
+classes {a b} {c}
+event 1 input rank 2 compartments none
+  a -> c
+event 2 input rank 0 compartments none
+  a -> c
+event 3 \"out\" output rank 0 compartments 0
+  a -> c
+event 4 output rank 1 compartments none
+  a -> c
+event 5 internal rank 1 compartments none
+  c -> c
+";
+
+    fn table() -> Table {
+        reader::read(TABLE.as_bytes()).unwrap()
+    }
+
+    fn fit(line: &str) -> Result<(), String> {
+        fits(&table().part, &read(line).unwrap())
+    }
+
+    fn misfit(line: &str) -> String {
+        let why = fit(line).unwrap_err();
+        why.strip_prefix("the verdict line is not about this part: ").unwrap().to_string()
+    }
+
+    fn in_words(line: &str) -> String {
+        fit(line).unwrap();
+        words(&table(), &read(line).unwrap())
+    }
+
+    #[test]
+    fn lines_of_verdict() {
+        assert_eq!(read("pass"), Ok(Verdict::Pass));
+        assert_eq!(read(" refused 8\n"), Ok(Verdict::Refused(8)));
+        let named = Break { rule: 2, event: 65535, s: 0, t: 63, u: 0 };
+        assert_eq!(read("rule 2 event 65535 from 0 to 63 other 0\n"), Ok(Verdict::Broken(named)));
+    }
+
+    #[test]
+    fn other_lines() {
+        let forms = "expected 'pass', 'refused N' or 'rule R event E from S to T other U', found";
+        let others = [
+            "",
+            "passed",
+            "pass pass",
+            "refused",
+            "refused x",
+            "rule 0 event 1 from 0 to 0 other 0",
+            "rule 6 event 1 from 0 to 0 other 0",
+            "rule 1 event 65536 from 0 to 0 other 0",
+            "rule 1 event 1 from 0 to 0",
+            "rule 1 event 1 from +0 to 0 other 0",
+            "rule 1 event 1 at 0 to 0 other 0",
+        ];
+        for line in others {
+            assert_eq!(read(line), Err(format!("{forms} '{line}'")));
+        }
+    }
+
+    #[test]
+    fn lines_about_another_part() {
+        assert_eq!(misfit("refused 3"), "the file is a well-formed record or table");
+        assert_eq!(misfit("rule 1 event 9 from 0 to 0 other 0"), "there is no event 9");
+        assert_eq!(misfit("rule 1 event 1 from 3 to 0 other 0"), "there is no state 3, the last is 2");
+        assert_eq!(misfit("rule 3 event 2 from 0 to 2 other 4"), "there is no state 4, the last is 2");
+        assert_eq!(misfit("rule 1 event 1 from 0 to 0 other 0"), "event 1 has a step from state 0");
+        assert_eq!(misfit("rule 1 event 1 from 1 to 1 other 0"), "rule 1 names the states 0 as T and U");
+        assert_eq!(misfit("rule 2 event 1 from 0 to 1 other 0"), "event 1 does not lead from state 0 to state 1");
+        assert_eq!(misfit("rule 2 event 1 from 0 to 2 other 1"), "rule 2 names the state 0 as U");
+        assert_eq!(misfit("rule 3 event 2 from 0 to 2 other 2"), "states 0 and 2 are in different classes");
+    }
+
+    #[test]
+    fn a_high_input_inside_its_class() {
+        let inside = TABLE.replace("{a b} {c}", "{a b c}");
+        let table = reader::read(inside.as_bytes()).unwrap();
+        let why = fits(&table.part, &read("rule 2 event 1 from 0 to 2 other 0").unwrap()).unwrap_err();
+        assert!(why.ends_with(": states 0 and 2 are in the same class"));
+    }
+
+    /// Each rule is about its own events.
+    #[test]
+    fn rules_and_their_events() {
+        let about = [(1, vec![1, 2]), (2, vec![1]), (3, vec![2]), (4, vec![3]), (5, vec![4, 5])];
+        for (rule, events) in about {
+            for event in 1..=5 {
+                let result = fit(&format!("rule {rule} event {event} from 0 to 2 other 1"));
+                let wrong = result.is_err_and(|why| why.contains(&format!("rule {rule} is not about event {event}, ")));
+                assert_eq!(wrong, !events.contains(&event), "rule {rule} event {event}");
+            }
+        }
+        assert_eq!(
+            misfit("rule 4 event 5 from 2 to 2 other 2"),
+            "rule 4 is not about event 5, which is low and internal"
+        );
+    }
+
+    #[test]
+    fn verdicts_in_words() {
+        assert_eq!(in_words("pass"), "The verdict given: pass.");
+        let one =
+            "Rule 1 is broken: the low input 2 has no step from s (state 1, b); inputs need a step from each state.";
+        assert_eq!(in_words("rule 1 event 2 from 1 to 0 other 0"), one);
+        let two = "Rule 2 is broken: the high input 1 leads from s (state 0, a) to t (state 2, c), \
+                   which is outside the class of s.";
+        assert_eq!(in_words("rule 2 event 1 from 0 to 2 other 0"), two);
+        let from = "leads from s (state 0, a) to t (state 2, c). But u (state 1, b) is in the class of s, and";
+        let three =
+            format!("Rule 3 is broken: the low input 2 {from} this input leads from u to no state of t's class.");
+        assert_eq!(in_words("rule 3 event 2 from 0 to 2 other 1"), three);
+        let four = "quiet steps lead from u to no state of t's class, and u itself is not in it.";
+        let four = format!("Rule 4 is broken: the high output 3 \"out\" {from} {four}");
+        assert_eq!(in_words("rule 4 event 3 from 0 to 2 other 1"), four);
+        let five = "quiet steps, this event and quiet steps lead from u to no state of t's class.";
+        assert_eq!(
+            in_words("rule 5 event 4 from 0 to 2 other 1"),
+            format!("Rule 5 is broken: the low output 4 {from} {five}")
+        );
+        assert!(in_words("rule 5 event 5 from 2 to 2 other 2").contains("the low internal event 5 leads from"));
+    }
+}

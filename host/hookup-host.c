@@ -1,0 +1,229 @@
+/* Checks one part record, or joins two and writes the joined record to a file. An example of a host program: the two calls of hookup.h, and
+ * beside them only C11 and its standard library. */
+#include <errno.h>
+#include <inttypes.h>
+#include <stdbool.h>
+#include <stdio.h>
+#include <stdlib.h>
+#include <string.h>
+
+#include "hookup.h"
+
+enum { DONE = 0, REFUSED = 1, TROUBLE = 2 }; /* the exit statuses */
+enum { FILE_LIMIT = 1048576 };               /* a longer file is not taken */
+enum { RECORD_LIMIT = 16586 };               /* no record that passes is longer, so every joined record fits */
+enum { SECOND = 1000 };                      /* Join adds this where the second record itself is refused or breaks a rule */
+
+/* What an answer other than 0 means. An own answer is about one record by itself; Join adds SECOND to it for its second record. */
+struct meaning {
+    uint32_t number;
+    bool own;
+    const char *words;
+};
+
+static const struct meaning meanings[] = {
+    {1, true, "fewer than six bytes"},
+    {2, true, "the length is not the number of bytes after the first six"},
+    {3, true, "the kind is not 1"},
+    {4, true, "the body is under four bytes, or the state count, start state or event count is out of range"},
+    {5, true, "the length is not the one for so many states and events"},
+    {6, true, "the classes are not numbered by first appearance"},
+    {7, true, "the identifiers do not rise, or an event kind is above 2"},
+    {8, true, "a row has a bit for a state that is not there"},
+    {9, false, "the observers differ"},
+    {10, false, "a shared event clashes in kind or level"},
+    {11, false, "more than 64 states or more than 32 events together"},
+    {15, false, "the output buffer is too short"},
+    {101, true, "rule 1 is broken: an input has no step from some state"},
+    {102, true, "rule 2 is broken: a high input leaves its state's class"},
+    {103, true, "rule 3 is broken: a low input leads from one state to a class where it does not lead from another of the same class"},
+    {104, true, "rule 4 is broken: a high output or internal event leads to a class that another state of the same class cannot reach by quiet steps"},
+    {105, true, "rule 5 is broken: a low output or internal event leads to a class that another state of the same class cannot reach by it and quiet steps"},
+};
+
+static const struct meaning *find_meaning(uint32_t answer)
+{
+    for (size_t i = 0; i < sizeof meanings / sizeof meanings[0]; i++) {
+        const struct meaning *m = &meanings[i];
+        if (answer == m->number || (m->own && answer == SECOND + m->number))
+            return m;
+    }
+    return NULL;
+}
+
+/* Which of Join's two records the answer is about, where it is about one. */
+static const char *side(uint32_t answer)
+{
+    const struct meaning *m = find_meaning(answer);
+    if (m == NULL || !m->own)
+        return "";
+    return answer > SECOND ? " (second record)" : " (first record)";
+}
+
+/* The words for an answer; done are those for 0. */
+static const char *words(uint32_t answer, const char *done)
+{
+    if (answer == 0)
+        return done;
+    const struct meaning *m = find_meaning(answer);
+    return m == NULL ? "not an answer that hookup.h names" : m->words;
+}
+
+static void complain(const char *about, const char *why)
+{
+    fprintf(stderr, "hookup-host: %s: %s\n", about, why);
+}
+
+/* Prints the answer's line and gives the exit status. */
+static int print_answer(uint32_t answer, const char *meaning, const char *which)
+{
+    if (printf("%" PRIu32 ": %s%s\n", answer, meaning, which) < 0 || fflush(stdout) != 0) {
+        complain("standard output", strerror(errno));
+        return TROUBLE;
+    }
+    return answer == 0 ? DONE : REFUSED;
+}
+
+/* Bytes in memory that the holder frees. */
+struct bytes {
+    uint8_t *at;
+    size_t len;
+};
+
+/* Reads from f to its end, or to one byte above the limit. Where that fails, errno says why. */
+static bool read_all(FILE *f, struct bytes *into)
+{
+    into->at = malloc(FILE_LIMIT + 1);
+    if (into->at == NULL)
+        return false;
+    into->len = fread(into->at, 1, FILE_LIMIT + 1, f);
+    return !ferror(f);
+}
+
+/* Reads a whole file, or says why not. The caller frees the bytes in both cases. */
+static bool read_file(const char *path, struct bytes *into)
+{
+    FILE *f = fopen(path, "rb");
+    if (f == NULL) {
+        complain(path, strerror(errno));
+        return false;
+    }
+    bool whole = read_all(f, into);
+    int why = errno;
+    fclose(f);
+    if (!whole)
+        complain(path, strerror(why));
+    else if (into->len > FILE_LIMIT)
+        complain(path, "longer than 1,048,576 bytes");
+    return whole && into->len <= FILE_LIMIT;
+}
+
+/* Whether a new file may take path's place: nothing is there, or a plain file that may be written. Otherwise says why not. A rename would
+ * replace a device or a pipe as well; a plain file is one that can be set to position 1. */
+static bool may_replace(const char *path)
+{
+    FILE *f = fopen(path, "r+b");
+    if (f == NULL) {
+        if (errno == ENOENT)
+            return true;
+        complain(path, strerror(errno));
+        return false;
+    }
+    setvbuf(f, NULL, _IONBF, 0); /* the position of the file, not of a buffer */
+    bool plain = fseek(f, 1, SEEK_SET) == 0 && ftell(f) == 1;
+    fclose(f);
+    if (!plain)
+        complain(path, "not a plain file");
+    return plain;
+}
+
+/* Makes a new file beside path, with the first name of path.tmp0 to path.tmp99 that is free, and writes that name to name, which has room
+ * for size characters. NULL and errno where that fails. */
+static FILE *create_beside(const char *path, char *name, size_t size)
+{
+    FILE *f = NULL;
+    errno = EEXIST;
+    for (int k = 0; f == NULL && errno == EEXIST && k < 100; k++) {
+        snprintf(name, size, "%s.tmp%d", path, k);
+        f = fopen(name, "wbx");
+    }
+    return f;
+}
+
+/* Writes the bytes and closes f in any case. A full disk may show only at the flush or the close. False and errno where one fails. */
+static bool write_and_close(FILE *f, const uint8_t *at, size_t len)
+{
+    bool whole = fwrite(at, 1, len, f) == len && fflush(f) == 0;
+    int why = errno;
+    if (fclose(f) != 0 && whole)
+        return false;
+    errno = why;
+    return whole;
+}
+
+/* Puts a file with these bytes in path's place, or says why not and leaves what was there. The bytes go to a new file; the rename is the
+ * last step, so path never holds only some of them. */
+static bool replace_file(const char *path, const uint8_t *at, size_t len)
+{
+    size_t size = strlen(path) + sizeof ".tmp99";
+    char *name = malloc(size);
+    FILE *f = name == NULL ? NULL : create_beside(path, name, size);
+    bool created = f != NULL;
+    bool done = created && write_and_close(f, at, len) && rename(name, path) == 0;
+    if (!done)
+        complain(path, strerror(errno));
+    if (created && !done)
+        remove(name);
+    free(name);
+    return done;
+}
+
+/* A record's first four bytes are the length of its body, lowest first; six bytes come before the body. */
+static size_t record_length(const uint8_t *record)
+{
+    return 6 + ((size_t)record[0] | (size_t)record[1] << 8 | (size_t)record[2] << 16 | (size_t)record[3] << 24);
+}
+
+static int check_file(const char *path)
+{
+    struct bytes record = {NULL, 0};
+    int status = TROUBLE;
+    if (read_file(path, &record)) {
+        uint32_t answer = hookup_check(record.at, record.len);
+        status = print_answer(answer, words(answer, "passes"), "");
+    }
+    free(record.at);
+    return status;
+}
+
+/* Joins two records and writes the joined one; out is touched only where the answer is 0. */
+static int join_records(struct bytes a, struct bytes b, const char *out)
+{
+    uint8_t joined[RECORD_LIMIT];
+    uint32_t answer = hookup_join(a.at, a.len, b.at, b.len, joined, sizeof joined);
+    if (answer == 0 && !(may_replace(out) && replace_file(out, joined, record_length(joined))))
+        return TROUBLE;
+    return print_answer(answer, words(answer, "joined"), side(answer));
+}
+
+static int join_files(const char *first, const char *second, const char *out)
+{
+    struct bytes a = {NULL, 0};
+    struct bytes b = {NULL, 0};
+    int status = TROUBLE;
+    if (read_file(first, &a) && read_file(second, &b))
+        status = join_records(a, b, out);
+    free(a.at);
+    free(b.at);
+    return status;
+}
+
+int main(int count, char **arguments)
+{
+    if (count == 3 && strcmp(arguments[1], "check") == 0)
+        return check_file(arguments[2]);
+    if (count == 5 && strcmp(arguments[1], "join") == 0)
+        return join_files(arguments[2], arguments[3], arguments[4]);
+    fputs("usage: hookup-host check FILE\n       hookup-host join A B OUT\n", stderr);
+    return TROUBLE;
+}
