@@ -1,4 +1,4 @@
-// Check: the silent closure, the classes that states can answer with, the five rules, and the verdict on a record.
+// Check: the five rules on the relations of a record, the first violation, and the verdict.
 pub mod answer;
 pub mod call;
 mod naming;
