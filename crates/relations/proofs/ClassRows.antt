@@ -1,19 +1,19 @@
--- Words by class that a loop over the states makes: the states of a class, and the classes that they all offer; and what is looked up in
--- them by state. Assumes nothing.
+-- Words by class that a loop over the states makes, such as the classes that the states of a class all offer; and what is looked up by
+-- state. Assumes nothing.
 use Prim.Native.Nat.{ℕ, _+_, _<_}
 use mathlib.Core.Path.{_≡_, refl, sym, ap, _∙_, subst}
-use mathlib.Core.Bool.{Bool, not, _||_, _&&_, and-true, and-false, or-false}
+use mathlib.Core.Bool.{Bool, not, _||_, _&&_, and-true}
 use mathlib.Core.List.{List}
-use native.Mathlib.Decide.{decLt, ℕ-discrete}
+use native.Mathlib.Decide.{ℕ-discrete}
 use native.Mathlib.Omega.{arith}
 use lib.Dec.{eqb, ltb}
 use lib.ListN.{length, getD, set, replicate, length-replicate, getD-replicate, length-set}
 use lib.Seq.{getD-set-same, getD-set-other}
-use borrow.Author.Tests.{eqb-true, eq-eqb, ne-eqb, lt-ltb, le-ltb}
+use borrow.Author.Tests.{eqb-true, eq-eqb, ne-eqb, lt-ltb}
 use Rattle.bounded.specs.Search.{all}
 use Rattle.bounded.proofs.Search.{all-next, any-at, any-found, same-truth, and-now, and-left, and-right}
-use Rattle.words.specs.Sets.{bit, union, intersection, single, Represents, Rows, gathered}
-use Rattle.words.proofs.Sets.{bit-zero, bit-single, bit-union, bit-intersection, bit-full}
+use Rattle.words.specs.Sets.{bit, intersection, Represents, Rows, gathered}
+use Rattle.words.proofs.Sets.{bit-intersection, bit-full}
 use Rattle.part.specs.Record.{states, class}
 use Rattle.relations.specs.Relations.{same-class}
 use Rattle.relations.specs.Sets.{offered, ClassesBelow, Members, Common, Agreed}
@@ -45,41 +45,6 @@ module _ (holds : ℕ → ℕ → ℕ → Type 0) where
           | no d ↦ subst (holds m c) (sym (getD-set-other words k c y 0 (λ e. d (sym e)))) (others c d (getD words c 0) (before .rows c h))
         ];
   }
-
--- ---- the states of a class
-
--- The word has those of the first n states that are of class c.
-abbrev Lists : List ℕ → ℕ → ℕ → ℕ → Type 0
-Lists b n c y = Represents y (λ t. ltb t n && eqb (class b t) c)
-
-abbrev pub Listed : List ℕ → ℕ → List ℕ → Type 0
-Listed b = ByClass (λ n c y. Lists b n c y)
-
-module _ (b : List ℕ) where
-  pub listed-none : (words : List ℕ) → words ≡ replicate 64 0 → Listed b 0 words
-  listed-none words e =
-      by-class-none (λ n c y. Lists b n c y) 0 words e (λ c t. bit-zero t ∙ sym (ap (λ (p : Bool). p && eqb (class b t) c) (le-ltb t 0 (omega arith))))
-
-  listed-next : (n c t : ℕ) → (ltb t (n + 1) && eqb (class b t) c) ≡ (ltb t n && eqb (class b t) c || eqb n t && eqb (class b n) c)
-  listed-next n c t =
-      elim (decLt t n) [
-        | yes l ↦ rw (lt-ltb t n l, lt-ltb t (n + 1) (omega arith), ne-eqb n t (λ e. absurd (omega arith))) (sym (or-false (eqb (class b t) c)))
-        | no l ↦
-            elim (ℕ-discrete n t) [
-              | yes e ↦ rw (le-ltb t n (omega arith), lt-ltb t (n + 1) (omega arith), eq-eqb n t e) (ap (λ (u : ℕ). eqb (class b u) c) (sym e))
-              | no d ↦ rw (le-ltb t n (omega arith), le-ltb t (n + 1) (omega arith), ne-eqb n t d) refl
-            ]
-      ]
-
-  -- The state n of class k is put into the word at k.
-  pub listed-more : (n k y : ℕ) (words : List ℕ) → k ≡ class b n → k < 64 → y ≡ union (getD words k 0) (single n) → Listed b n words
-      → Listed b (n + 1) (set words k y)
-  listed-more n k y words of-class small more before =
-      by-class-put (λ m c x. Lists b m c x) n (n + 1) k y words small before
-      (λ t.
-      rw (more, bit-union (getD words k 0) (single n) t, before .rows k small t, bit-single n t, listed-next n k t, eq-eqb (class b n) k (sym of-class), and-true (eqb n t))
-      refl)
-      (λ c d x h t. rw (h t, listed-next n c t, ne-eqb (class b n) c (λ e. d (of-class ∙ e)), and-false (eqb n t)) (sym (or-false (ltb t n && eqb (class b t) c))))
 
 -- ---- the classes that all states of a class offer
 

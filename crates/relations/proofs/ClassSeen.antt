@@ -2,15 +2,16 @@
 use Prim.Native.Nat.{ℕ, _+_, _<_}
 use mathlib.Core.Path.{_≡_, refl, sym, ap, _∙_, subst}
 use mathlib.Core.Bool.{true, false, _||_, or-true}
+use mathlib.Core.Logic.{⊎-elim}
 use mathlib.Core.List.{List}
 use native.Mathlib.Decide.{decLt}
 use native.Mathlib.Omega.{arith}
 use lib.ListN.{length, getD, set}
 use lib.Dec.{eqb}
 use borrow.Author.Tests.{eqb-true, eq-eqb}
-use Rattle.bounded.proofs.Search.{or-now, true-not-false}
+use Rattle.bounded.proofs.Search.{or-now, or-then, true-or-false, true-not-false}
 use Rattle.words.specs.Sets.{bit, union, single}
-use Rattle.words.proofs.Sets.{bit-single, bit-union}
+use Rattle.words.proofs.Sets.{bit-zero, bit-single, bit-union}
 use Rattle.part.specs.Record.{states, class}
 use Rattle.relations.specs.Relations.{same-class}
 use Rattle.relations.specs.Sets.{ClassesBelow, Alone, Even}
@@ -21,25 +22,37 @@ last-too : {A : ℕ → Type 0} (n : ℕ) → ((u : ℕ) → u < n → A u) → 
 last-too {A} n f here u h = elim (decLt u n) [ yes l ↦ f u l | no l ↦ let e : n ≡ u = omega arith in subst A e here ]
 
 module _ (b : List ℕ) where
-  -- The word has the classes of the first n states.
-  abbrev pub Seen : ℕ → ℕ → Type 0
-  Seen n x = (u : ℕ) → u < n → bit x (class b u) ≡ true
+  -- The word has the classes of the first n states, and no others.
+  pub record Seen (n x : ℕ) : Type 0 where
+    pub has : (u : ℕ) → u < n → bit x (class b u) ≡ true
+    pub only : (c : ℕ) → bit x c ≡ true → (u : ℕ) × (u < n) × (class b u ≡ c)
 
-  pub seen-none : (x : ℕ) → Seen 0 x
-  seen-none x u h = absurd (omega arith)
+  pub seen-none : Seen 0 0
+  seen-none = record { has = λ u h. absurd (omega arith); only = λ c e. absurd (true-not-false e (bit-zero c)) }
 
   pub seen-kept : (n k x : ℕ) → k ≡ class b n → bit x k ≡ true → Seen n x → Seen (n + 1) x
-  seen-kept n k x of-class e before = last-too n before (rw (← of-class) e)
+  seen-kept n k x of-class e before = record {
+    has = last-too n (before .has) (rw (← of-class) e);
+    only = λ c q. let w = before .only c q in (w .0, omega (arith, w .1), w .2);
+  }
 
   pub seen-more : (n k x y : ℕ) → k ≡ class b n → y ≡ union x (single k) → Seen n x → Seen (n + 1) y
   seen-more n k x y of-class more before =
       let either : (c : ℕ) → bit y c ≡ (bit x c || eqb k c) = λ c. rw (more, bit-union x (single k) c, bit-single k c) refl in
-      last-too n (λ u h. either (class b u) ∙ or-now (bit x (class b u)) (eqb k (class b u)) (before u h))
-      (either (class b n) ∙ rw (eq-eqb k (class b n) of-class) (or-true (bit x (class b n))))
+      record {
+        has =
+            last-too n (λ u h. either (class b u) ∙ or-now (bit x (class b u)) (eqb k (class b u)) (before .has u h))
+            (either (class b n) ∙ rw (eq-eqb k (class b n) of-class) (or-true (bit x (class b n))));
+        only = λ c q.
+            ⊎-elim
+            (λ e. let w = before .only c e in (w .0, omega (arith, w .1), w .2))
+            (λ e. (n, omega arith, sym of-class ∙ eqb-true k c (sym (or-then (bit x c) (eqb k c) e) ∙ sym (either c) ∙ q)))
+            (true-or-false (bit x c));
+      }
 
   -- No earlier state has a class that is not seen.
   unseen : (n k x : ℕ) → bit x k ≡ false → Seen n x → (u : ℕ) → u < n → class b u ≡ k → ⊥
-  unseen n k x e before u h q = true-not-false (before u h) (rw q e)
+  unseen n k x e before u h q = true-not-false (before .has u h) (rw q e)
 
   -- ---- no two states share a class
 
@@ -48,8 +61,8 @@ module _ (b : List ℕ) where
     pub seen : Seen n x
     pub apart : (s u : ℕ) → s < n → u < n → class b u ≡ class b s → u ≡ s
 
-  pub apart-none : (x : ℕ) → Apart 0 x
-  apart-none x = record { seen = seen-none x; apart = λ s u h l e. absurd (omega arith) }
+  pub apart-none : Apart 0 0
+  apart-none = record { seen = seen-none; apart = λ s u h l e. absurd (omega arith) }
 
   pub apart-more : (n k x y : ℕ) → k ≡ class b n → bit x k ≡ false → y ≡ union x (single k) → Apart n x → Apart (n + 1) y
   apart-more n k x y of-class new more before =
@@ -72,6 +85,14 @@ module _ (b : List ℕ) where
   pub apart-all : (n x : ℕ) → n ≡ states b → Apart n x → Alone b
   unfolding same-class
   apart-all n x e before s u h l same = before .apart s u (omega arith) (omega arith) (eqb-true _ _ same)
+
+  -- The class of the state n is seen: an earlier state has it.
+  pub not-alone : (n k x : ℕ) → n < states b → k ≡ class b n → bit x k ≡ true → Seen n x → Alone b → ⊥
+  unfolding same-class
+  not-alone n k x h of-class e before alone =
+      let w = before .only k e in
+      let same = alone n (w .0) h (omega (arith, w .1)) (eq-eqb _ _ (w .2 ∙ of-class)) in
+      omega (arith, w .1, same)
 
 -- ---- the states of a class have the same word
 
@@ -102,3 +123,11 @@ module _ (b words : List ℕ) where
   unfolding same-class
   firsts-even n firsts e below before s u h l same =
       let at = before .rows (class b s) (below s h) in at u (omega arith) (eqb-true _ _ same) ∙ sym (at s (omega arith) refl)
+
+  -- The state n has another word than its class, which an earlier state has too.
+  pub firsts-odd : (n k x : ℕ) (firsts : List ℕ) → n < states b → k ≡ class b n → k < 64 → bit x k ≡ true → Seen b n x → Firsts b words n firsts
+      → (getD firsts k 0 ≡ getD words n 0 → ⊥) → Even b words → ⊥
+  unfolding same-class
+  firsts-odd n k x firsts h of-class small e seen before other even =
+      let w = seen .only k e in
+      other (sym (before .rows k small (w .0) (w .1) (w .2)) ∙ even n (w .0) h (omega (arith, w .1)) (eq-eqb _ _ (w .2 ∙ of-class)))

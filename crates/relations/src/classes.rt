@@ -1,6 +1,7 @@
 // Sets by class and by state: the states of a class, the classes that they all offer, and whether they offer the same.
 ghost use mathlib.Core.Path.{_≡_};
 ghost use mathlib.Core.Bool.{true};
+ghost use mathlib.Core.Logic.{_↔_};
 ghost use lib.ListN.{replicate};
 ghost use Rattle.part.specs.Record.{Framed};
 ghost use Rattle.relations.specs.Sets.{ClassesBelow, Owns, Members, Mates, Alone, Even, Common, Agreed};
@@ -57,11 +58,11 @@ pub fn put_mates(out: &mut [u64; 64], b: &[u8], members: &mut [u64; 64])
     }
 }
 
-// No two states share a class, as far as it says so.
+// No two states share a class.
 pub fn distinct(b: &[u8]) -> bool
     requires { ⌜ Framed (now b) ⌝ }
     requires { ⌜ ClassesBelow (now b) ⌝ }
-    ensures { λ r. ⌜ (r ≡ true → Alone (now (b .entry))) ⌝ }
+    ensures { λ r. ⌜ (r ≡ true) ↔ Alone (now (b .entry)) ⌝ }
 {
     let n = Part::states(b);
     let mut seen = 0;
@@ -77,11 +78,11 @@ pub fn distinct(b: &[u8]) -> bool
     true
 }
 
-// The states of a class have the same word, as far as it says so. `first` is room for the first word of each class.
+// The states of a class have the same word. `first` is room for the first word of each class.
 pub fn even(b: &[u8], words: &[u64; 64], first: &mut [u64; 64]) -> bool
     requires { ⌜ Framed (now b) ⌝ }
     requires { ⌜ ClassesBelow (now b) ⌝ }
-    ensures { λ r. ⌜ (r ≡ true → Even (now (b .entry)) (now (words .entry))) ⌝ }
+    ensures { λ r. ⌜ (r ≡ true) ↔ Even (now (b .entry)) (now (words .entry)) ⌝ }
 {
     let n = Part::states(b);
     let firsts = &mut first[..];

@@ -1,24 +1,24 @@
 -- The rules by their sets: where a rule is broken, in terms of what a state offers. Assumes nothing.
-use Prim.Native.Nat.{ℕ, zero, suc, _≤_, _<_}
+use Prim.Native.Nat.{ℕ, zero, suc, _+_, _≤_, _<_}
 use mathlib.Core.Path.{_≡_, refl, sym, ap, _∙_}
-use mathlib.Core.Bool.{Bool, true, false, not, _||_, _&&_}
+use mathlib.Core.Bool.{Bool, true, false, not, _||_, _&&_, or-true, or-false}
 use mathlib.Core.List.{List}
 use mathlib.Core.Option.{none, some}
 use native.Mathlib.Decide.{decLt}
 use native.Mathlib.Omega.{arith}
-use mathlib.Core.Logic.{⊎-elim}
+use mathlib.Core.Logic.{_↔_, ⊎-elim}
 use lib.Dec.{eqb}
 use lib.ListN.{getD}
-use borrow.Author.Tests.{eqb-true, eq-eqb}
+use borrow.Author.Tests.{eqb-true, eq-eqb, ne-eqb, not-true}
 use Rattle.bounded.specs.Search.{any, all, first}
-use Rattle.bounded.proofs.Search.{all-at, all-intro, any-found, any-none, first-nothing, first-hit, same-truth, is-false, is-true, true-not-false, imp-elim, imp-intro, not-refuted, true-or-false, and-right}
+use Rattle.bounded.proofs.Search.{all-at, all-intro, any-found, any-next, any-none, first-nothing, first-hit, same-truth, is-false, is-true, true-not-false, imp-elim, imp-intro, not-refuted, true-or-false, and-right}
 use Rattle.machine.specs.Rules.{Rule, rule-2}
 use Rattle.part.specs.Record.{states, class, identifier, row}
 use Rattle.relations.specs.Relations.{role-at, leads, same-class, rule-at}
 use Rattle.restrictive.specs.Tests.{asks, answers, broken}
 use Rattle.restrictive.specs.Verdict.{Violation, violation-at, state-violation, event-violation}
 use Rattle.relations.specs.Sets.{concerns}
-use Rattle.restrictive.specs.Sets.{led-to, reached, offer, permits, Asked, Weighed, Offers}
+use Rattle.restrictive.specs.Sets.{Enabled, led-to, reached, offer, permits, Asked, Weighed, Offers}
 use Rattle.words.specs.Sets.{bit, intersection}
 use Rattle.words.proofs.Sets.{bit-intersection, bit-zero, all-below}
 
@@ -163,6 +163,26 @@ broken-by-set b k i s t u offers h l a o hu =
     broken-asked b k i s t u h l a ∙ ap (λ (p : Bool). same-class b u s && not p) (sym (o u hu (class b t)))
 
 -- ---- rule 1: a state with no step
+
+module _ (b : List ℕ) (i : ℕ) where
+  abbrev pub without-step : ℕ → Bool
+  without-step s = eqb (row b i s) 0
+
+  -- A search for one, a state further.
+  pub stuck-here : (s : ℕ) → row b i s ≡ 0 → true ≡ any (s + 1) without-step
+  stuck-here s e = sym (any-next without-step s ∙ ap (λ (p : Bool). any s without-step || p) (eq-eqb _ _ e) ∙ or-true (any s without-step))
+
+  pub stuck-before : (s : ℕ) → (row b i s ≡ 0 → ⊥) → any s without-step ≡ any (s + 1) without-step
+  stuck-before s d = sym (any-next without-step s ∙ ap (λ (p : Bool). any s without-step || p) (ne-eqb _ _ d) ∙ or-false (any s without-step))
+
+  pub enabled-all : (s : ℕ) (stuck : Bool) → s ≡ states b → stuck ≡ any s without-step → (not stuck ≡ true) ↔ Enabled b i
+  enabled-all s stuck q e = (
+    λ p u h z. true-not-false (eq-eqb (row b i u) 0 z) (any-none without-step s (sym e ∙ not-true stuck p) u (omega arith)),
+    λ all.
+        ap not (e ∙ is-false _ (λ t.
+        let w = any-found s without-step t in
+        all (w .0) (omega (arith, w .1)) (eqb-true (row b i (w .0)) 0 (w .2)))),
+  )
 
 module _ (b : List ℕ) (i s : ℕ) (speaks : concerns (rule-at 0) (role-at b i) ≡ true) where
   broken-stepless : (t u : ℕ) → broken b (rule-at 0) i s t u ≡ not (any (states b) (leads b i s))

@@ -8,11 +8,15 @@ use lib.ListN.{getD}
 use lib.Dec.{eqb}
 use Rattle.bounded.specs.Search.{any, all}
 use Rattle.words.specs.Sets.{bit, Rows, gathered}
-use Rattle.part.specs.Record.{states, events, class, Framed}
+use Rattle.part.specs.Record.{states, events, class, row, Framed}
 use Rattle.machine.specs.Rules.{Rule, rule-1, rule-2, rule-3, rule-4, rule-5}
 use Rattle.relations.specs.Relations.{rule-at, role-at, leads, reach, same-class}
 use Rattle.relations.specs.Sets.{concerns, ClassesBelow, LookedUp}
 use Rattle.restrictive.specs.Tests.{around}
+
+-- Every state has a step of the event at place i.
+abbrev pub Enabled : List ℕ → ℕ → Type 0
+Enabled b i = (s : ℕ) → s < states b → row b i s ≡ 0 → ⊥
 
 -- ---- what a state offers, and what a rule permits
 

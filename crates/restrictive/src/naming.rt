@@ -1,13 +1,14 @@
 // The first violation by an event, searched for in the order of the states. The sets say where there is one.
 ghost use mathlib.Core.Path.{_≡_};
-ghost use Prim.Native.Nat.{ℕ, suc, _<_, _≤_};
+ghost use Prim.Native.Nat.{suc, _<_, _≤_};
 ghost use mathlib.Core.Bool.{true, not, _&&_};
+ghost use mathlib.Core.Logic.{_↔_};
 ghost use lib.ListN.{getD};
 ghost use Rattle.bounded.specs.Search.{first};
 ghost use Rattle.part.specs.Record.{states, events, class, identifier, row, Framed};
 ghost use Rattle.relations.specs.Relations.{role-at, same-class, rule-at};
 ghost use Rattle.relations.specs.Sets.{concerns, ClassesBelow, RowsWithin};
-ghost use Rattle.restrictive.specs.Sets.{Offers, Weighed, Asked};
+ghost use Rattle.restrictive.specs.Sets.{Enabled, Offers, Weighed, Asked};
 ghost use Rattle.restrictive.specs.Verdict.{violation-at, state-violation, event-violation};
 ghost use Rattle.restrictive.specs.Answers.{named, shows};
 ghost use Rattle.words.specs.Sets.{bit};
@@ -167,10 +168,10 @@ pub fn by_sets(b: &[u8], k: usize, i: usize, permitted: &[u64; 64], offers: &[u6
 }
 
 // Every state has a step of the event.
-pub fn enabled(b: &[u8], i: usize) -> bool
+fn enabled(b: &[u8], i: usize) -> bool
     requires { ⌜ Framed (now b) ⌝ }
     requires { ⌜ i < events (now b) ⌝ }
-    ensures { λ r. ⌜ (r ≡ true → (s : ℕ) → s < states (now (b .entry)) → row (now (b .entry)) i s ≡ 0 → ⊥) ⌝ }
+    ensures { λ r. ⌜ (r ≡ true) ↔ Enabled (now (b .entry)) i ⌝ }
 {
     let n = Part::states(b);
     let mut stuck = false;

@@ -462,7 +462,16 @@ pub clear-lowest : (x : ℕ) → x < 2 ^ 64 → (x ≡ 0 → ⊥) → bitAnd x (
 unfolding without lowest
 clear-lowest x h n = clear 64 x h n
 
--- Nothing is left of x without its lowest member: it has no other.
-pub single-lowest : (x : ℕ) → x < 2 ^ 64 → (x ≡ 0 → ⊥) → without x (lowest x) ≡ 0 → x ≡ single (lowest x)
+-- Nothing is left of x without its lowest member exactly if it has no other.
+pub single-lowest : (x : ℕ) → x < 2 ^ 64 → (x ≡ 0 → ⊥) → eqb (without x (lowest x)) 0 ≡ eqb x (single (lowest x))
 unfolding without single
-single-lowest x h n e = let le = member-le x (lowest x) (lowest-member x h n .member) in omega arith
+single-lowest x h n =
+    let le = member-le x (lowest x) (lowest-member x h n .member) in
+    let t = lowest x in
+    same-truth (eqb (x - 2 ^ t) 0) (eqb x (2 ^ t))
+    (λ e. let z = eqb-true (x - 2 ^ t) 0 e in eq-eqb x (2 ^ t) (omega arith))
+    (λ e. let z = eqb-true x (2 ^ t) e in eq-eqb (x - 2 ^ t) 0 (omega arith))
+
+-- The empty set is no set of one.
+pub none-single : (x t : ℕ) → x ≡ 0 → false ≡ eqb x (single t)
+none-single x t e = sym (ne-eqb x (single t) (λ q. true-not-false (bit-single t t ∙ eq-eqb t t refl) (ap (λ (y : ℕ). bit y t) (sym q ∙ e) ∙ bit-zero t)))

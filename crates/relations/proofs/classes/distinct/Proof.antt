@@ -4,7 +4,7 @@ use native.Mathlib.Omega.{arith}
 use borrow.Author.Needs.{needs}
 use Rattle.bounded.proofs.Search.{true-not-false}
 use Rattle.words.specs.Sets.{union}
-use Rattle.relations.proofs.ClassSeen.{Apart, apart-none, apart-more, apart-all}
+use Rattle.relations.proofs.ClassSeen.{Apart, apart-none, apart-more, apart-all, not-alone}
 use Rattle.relations.proofs.classes.distinct.Statement.{statement}
 use Rattle.relations.proofs.classes.distinct.Tie as tie
 
@@ -18,7 +18,7 @@ states-requires : tie.Need-states-requires Inv-loop μ-loop
 states-requires c κs = search needs
 
 loop-holds : tie.Need-loop-holds Inv-loop μ-loop
-loop-holds c = (omega arith, apart-none _ _)
+loop-holds c = (omega arith, apart-none _)
 
 class-requires : tie.Need-class-requires Inv-loop μ-loop
 class-requires c κs = search needs
@@ -31,7 +31,12 @@ contains-requires : tie.Need-contains-requires Inv-loop μ-loop
 contains-requires c κs = small c
 
 returns : tie.Need-returns Inv-loop μ-loop
-returns c = λ e. absurd (true-not-false e refl)
+returns c = (
+  λ e. absurd (true-not-false e refl),
+  λ alone.
+      let found = c .before .before in
+      absurd (not-alone _ _ _ _ (omega arith) (found .class .ensures .0) (sym (c .before .contains .ensures) ∙ c .if1 .taken) (found .before .before .loop .inv .1 .seen) alone),
+)
 
 single-requires : tie.Need-single-requires Inv-loop μ-loop
 single-requires c κs = small (c .before .before)
@@ -54,7 +59,7 @@ loop-again c =
     )
 
 returns-2 : tie.Need-returns-2 Inv-loop μ-loop
-returns-2 c = λ e. apart-all _ _ _ (omega arith) (c .before .loop .inv .1)
+returns-2 c = (λ e. apart-all _ _ _ (omega arith) (c .before .loop .inv .1), λ alone. refl)
 
 pub distinct-spec : {M : Type 1} → statement M
 distinct-spec =

@@ -1,4 +1,7 @@
-use Prim.Native.Nat.{_≤_, _<_, _+_, _-_}
+use Prim.Native.Nat.{ℕ, _≤_, _<_, _+_, _-_}
+use mathlib.Core.List.{List}
+use lib.ListN.{getD}
+use lib.Seq.{getD-set-same}
 use mathlib.Core.Path.{refl, sym, ap, _∙_}
 use mathlib.Core.Logic.{⊎-elim}
 use denote.Ref.{now}
@@ -7,7 +10,7 @@ use borrow.Author.Needs.{needs}
 use borrow.Author.Tests.{not-true, not-false}
 use Rattle.bounded.proofs.Search.{true-not-false}
 use Rattle.words.specs.Sets.{union}
-use Rattle.relations.proofs.ClassSeen.{Seen, seen-none, seen-kept, seen-more, Firsts, firsts-none, firsts-put, firsts-more, firsts-even}
+use Rattle.relations.proofs.ClassSeen.{Seen, seen-none, seen-kept, seen-more, Firsts, firsts-none, firsts-put, firsts-more, firsts-even, firsts-odd}
 use Rattle.relations.proofs.classes.even.Statement.{statement}
 use Rattle.relations.proofs.classes.even.Tie as tie
 
@@ -21,7 +24,7 @@ states-requires : tie.Need-states-requires Inv-loop μ-loop
 states-requires c κs = search needs
 
 loop-holds : tie.Need-loop-holds Inv-loop μ-loop
-loop-holds c = (omega arith, seen-none _ _, firsts-none _ (now (c .before .before .before .args .words)) _ (c .firsts .given .0 .1))
+loop-holds c = (omega arith, seen-none _, firsts-none _ (now (c .before .before .before .args .words)) _ (c .firsts .given .0 .1))
 
 class-requires : tie.Need-class-requires Inv-loop μ-loop
 class-requires c κs = search needs
@@ -81,7 +84,20 @@ element-copy-out-if2 : tie.Need-element-copy-out-if2 Inv-loop μ-loop
 element-copy-out-if2 c = omega arith
 
 returns : tie.Need-returns Inv-loop μ-loop
-returns c = λ e. absurd (true-not-false e refl)
+returns c =
+    let met = c .before .before .before in
+    let turn = met .before .before .before .before .loop in
+    let words = now (met .before .before .before .before .before .before .before .before .args .words) in (
+      λ e. absurd (true-not-false e refl),
+      λ even.
+          absurd (⊎-elim
+          (λ w. c .if2 .taken (ap (λ (fs : List ℕ). getD fs (met .before .before .class .result) 0) (w .4) ∙ getD-set-same (turn .firsts) (met .before .before .class .result) _ 0 (omega (arith, small (met .before .before), turn .inv .2 .size))))
+          (λ w.
+          firsts-odd _ words _ _ _ _ (omega arith) (met .before .before .class .ensures .0) (small (met .before .before))
+          (sym (met .before .contains .ensures) ∙ not-false _ (w .0 .left)) (turn .inv .1) (turn .inv .2)
+          (λ q. c .if2 .taken (ap (λ (fs : List ℕ). getD fs (met .before .before .class .result) 0) (w .1) ∙ q)) even)
+          (met .if1 .came)),
+    )
 
 add-s : tie.Need-add-s Inv-loop μ-loop
 add-s c = omega arith
@@ -98,7 +114,7 @@ loop-again c =
 returns-2 : tie.Need-returns-2 Inv-loop μ-loop
 returns-2 c =
     let start = c .before .before .before .before .before in
-    λ e. firsts-even _ (now (start .args .words)) _ _ (omega arith) (start .pre .1) (c .before .loop .inv .2)
+    (λ e. firsts-even _ (now (start .args .words)) _ _ (omega arith) (start .pre .1) (c .before .loop .inv .2), λ even. refl)
 
 pub even-spec : {M : Type 1} → statement M
 even-spec =

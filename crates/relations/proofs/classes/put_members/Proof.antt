@@ -3,13 +3,13 @@ use mathlib.Core.Path.{_≡_, ap, _∙_}
 use native.Mathlib.Omega.{arith}
 use borrow.Author.Needs.{needs}
 use Rattle.words.specs.Sets.{union}
-use Rattle.part.specs.Record.{states}
-use Rattle.relations.proofs.ClassRows.{Listed, listed-none, listed-more}
+use Rattle.part.specs.Record.{states, class}
+use Rattle.relations.proofs.Sorted.{Sorted, sorted-none, sorted-more}
 use Rattle.relations.proofs.classes.put_members.Statement.{statement}
 use Rattle.relations.proofs.classes.put_members.Tie as tie
 
 abbrev Inv-loop : tie.InvT-loop
-Inv-loop b n sets₀ s₀ sets s = (s ≤ n) × Listed b s sets
+Inv-loop b n sets₀ s₀ sets s = (s ≤ n) × Sorted 64 (class b) s sets
 
 abbrev μ-loop : tie.MeasureT-loop
 μ-loop b n sets₀ s₀ sets s = n - s
@@ -18,7 +18,7 @@ states-requires : tie.Need-states-requires Inv-loop μ-loop
 states-requires c κs = search needs
 
 loop-holds : tie.Need-loop-holds Inv-loop μ-loop
-loop-holds c = (omega arith, listed-none _ _ (c .before .before .before .pre .1 .1))
+loop-holds c = (omega arith, sorted-none _ _ _ (c .before .before .before .pre .1 .1))
 
 class-requires : tie.Need-class-requires Inv-loop μ-loop
 class-requires c κs = search needs
@@ -55,11 +55,11 @@ loop-again : tie.Need-loop-again Inv-loop μ-loop
 loop-again c =
     let read = c .before .before .before in (
       omega arith,
-      listed-more _ _ _ (c .union .result) _ (read .class .ensures .0) (small read) (c .union .ensures ∙ ap (union _) (c .before .single .ensures)) (read .before .before .loop .inv .1),
+      sorted-more _ (class (read .before .before .before .before .before .before .args .b .now)) _ _ (c .union .result) _ (read .class .ensures .0) (small read) (c .union .ensures ∙ ap (union _) (c .before .single .ensures)) (read .before .before .loop .inv .1),
     )
 
 returns : tie.Need-returns Inv-loop μ-loop
-returns c = let e : c .before .loop .s ≡ states (c .before .before .before .before .before .args .b .now) = omega arith in rw e at (c .before .loop .inv .1 .rows)
+returns c = let e : c .before .loop .s ≡ states (c .before .before .before .before .before .args .b .now) = omega arith in rw e at (c .before .loop .inv .1 .holds)
 
 pub put-members-spec : {M : Type 1} → statement M
 put-members-spec =

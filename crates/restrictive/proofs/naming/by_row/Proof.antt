@@ -21,7 +21,7 @@ enabled-requires c κs = (c .before .pre .0, c .before .pre .1 .1 .0)
 
 returns : tie.Need-returns Inv-loop μ-loop
 unfolding shows event-violation
-returns c = sym (first-nothing (state-violation _ 0 _) _ (λ s h. has-step _ _ s (c .before .before .before .pre .1 .1 .1) (λ t l. c .before .before .before .pre .1 .0 _ _ t (c .before .before .before .pre .1 .1 .0) h l) (c .before .enabled .ensures (c .if1 .taken) s h)))
+returns c = sym (first-nothing (state-violation _ 0 _) _ (λ s h. has-step _ _ s (c .before .before .before .pre .1 .1 .1) (λ t l. c .before .before .before .pre .1 .0 _ _ t (c .before .before .before .pre .1 .1 .0) h l) (c .before .enabled .ensures .0 (c .if1 .taken) s h)))
 
 states-requires : tie.Need-states-requires Inv-loop μ-loop
 states-requires c κs = omega arith

@@ -13,7 +13,7 @@ even-requires c κs = search needs
 
 returns : tie.Need-returns
 unfolding shows
-returns c = sym (even-none _ _ _ (c .before .before .before .before .pre .1 .1 .0 .0) (c .before .before .before .before .pre .1 .1 .0 .1) (c .before .before .before .before .pre .1 .1 .1 .0) (now (c .before .before .before .before .args .offers)) (c .before .before .before .before .pre .1 .1 .1 .1 .0) (c .before .before .before .before .pre .1 .1 .1 .1 .1) (c .before .even .ensures (c .if1 .taken)))
+returns c = sym (even-none _ _ _ (c .before .before .before .before .pre .1 .1 .0 .0) (c .before .before .before .before .pre .1 .1 .0 .1) (c .before .before .before .before .pre .1 .1 .1 .0) (now (c .before .before .before .before .args .offers)) (c .before .before .before .before .pre .1 .1 .1 .1 .0) (c .before .before .before .before .pre .1 .1 .1 .1 .1) (c .before .even .ensures .0 (c .if1 .taken)))
 
 put-agreed-requires : tie.Need-put-agreed-requires
 put-agreed-requires c κs = search needs

@@ -13,7 +13,7 @@ even-requires c κs = search needs
 
 returns : tie.Need-returns
 unfolding shows
-returns c = sym (rule-none _ _ (omega arith) (λ i h speaks. even-none _ _ i (omega arith) (omega arith) h (now (c .before .before .before .before .args .met)) speaks (reached-offers _ (now (c .before .before .before .before .args .met)) (c .before .before .before .before .pre .1 .1 .1) i) (c .before .even .ensures (c .if1 .taken))))
+returns c = sym (rule-none _ _ (omega arith) (λ i h speaks. even-none _ _ i (omega arith) (omega arith) h (now (c .before .before .before .before .args .met)) speaks (reached-offers _ (now (c .before .before .before .before .args .met)) (c .before .before .before .before .pre .1 .1 .1) i) (c .before .even .ensures .0 (c .if1 .taken))))
 
 put-agreed-requires : tie.Need-put-agreed-requires
 put-agreed-requires c κs = search needs

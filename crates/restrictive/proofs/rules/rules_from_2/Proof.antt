@@ -29,7 +29,7 @@ distinct-requires c κs = search needs
 
 returns-2 : tie.Need-returns-2
 unfolding shows
-returns-2 c = sym (alone-rules _ (nothing-more (rule-violation _) 1 _ (c .before .before .before .before .rule-2 .ensures) (c .before .before .before .before .before .before .before .before .before .pre .1 .1 .1) (c .before .before .enum-told2 .given .1)) (c .before .distinct .ensures (c .if1 .taken)))
+returns-2 c = sym (alone-rules _ (nothing-more (rule-violation _) 1 _ (c .before .before .before .before .rule-2 .ensures) (c .before .before .before .before .before .before .before .before .before .pre .1 .1 .1) (c .before .before .enum-told2 .given .1)) (c .before .distinct .ensures .0 (c .if1 .taken)))
 
 rules-from-3-requires : tie.Need-rules-from-3-requires
 rules-from-3-requires c κs = (c .before .before .before .before .before .before .before .before .before .before .before .pre .0, (c .before .before .before .before .before .before .before .before .before .before .before .pre .1 .0, (c .before .before .before .before .before .before .before .before .before .before .before .pre .1 .1 .0, nothing-more (rule-violation _) 1 _ (c .before .before .before .before .before .before .rule-2 .ensures) (c .before .before .before .before .before .before .before .before .before .before .before .pre .1 .1 .1) (c .before .before .before .before .enum-told2 .given .1))))
