@@ -11,7 +11,7 @@ use native.Mathlib.Omega.{arith}
 use borrow.Author.Tests.{le-ltb, lt-ltb, le-leb, lt-leb, eq-eqb, ne-eqb}
 use lib.Dec.{leb}
 use lib.ListN.{length, take, drop, set, replicate, drop-of-length-le, length-drop, length-set, length-replicate}
-use lib.Seq.{drop-cons, getD-take, getD-drop, length-take-le, take-suc-set, append-snoc}
+use lib.Seq.{drop-cons, getD-take, getD-drop, length-take-le, take-suc-set, append-snoc, drop-set-lt, drop-drop}
 use Rattle.bounded.proofs.Search.{true-not-false, true-or-false}
 use Rattle.words.specs.LittleEndian.{byte, number}
 use Rattle.words.proofs.LittleEndian.{number-same}
@@ -185,16 +185,17 @@ module _ (a b : List ℕ) (f : Framed a) (g : Framed b) (i j : ℕ) where
 
 -- ---- the whole walk
 
--- The first `count` of the identifiers are those of the merged list before the places i and j.
+-- The first `count` of the identifiers are those of the merged list before the places i and j, and zeros stand behind them.
 pub record Walked (a b identifiers : List ℕ) (count i j : ℕ) : Type 0 where
   pub size : length identifiers ≡ 64
   pub within : (i ≤ events a) × (j ≤ events b) × (count ≤ i + j)
+  pub zeros : drop count identifiers ≡ drop count (replicate 64 0)
   pub so-far : take count identifiers ++ merge (drop i (joined.identifiers a)) (drop j (joined.identifiers b)) ≡ merged a b
 
 module _ (a b : List ℕ) (xs : List ℕ) where
   pub walked-none : xs ≡ replicate 64 0 → Walked a b xs 0 0 0
   unfolding merged
-  walked-none e = record { size = ap length e ∙ length-replicate {A = ℕ} 64 0; within = (omega arith, omega arith, omega arith); so-far = refl }
+  walked-none e = record { size = ap length e ∙ length-replicate {A = ℕ} 64 0; within = (omega arith, omega arith, omega arith); zeros = e; so-far = refl }
 
   pub walked-more : (f : Framed a) (g : Framed b) (count i j e i' j' : ℕ) → Walked a b xs count i j → i + j < events a + events b
       → e ≡ number 2 (next-entry a b i j) 0 → i' ≡ past a i e → j' ≡ past b j e → Walked a b (set xs count e) (count + 1) i' j' × (i + j < i' + j')
@@ -204,6 +205,7 @@ module _ (a b : List ℕ) (xs : List ℕ) where
         record {
           size = length-set xs count e ∙ w .size;
           within = (omega (arith, past-le a i e (w .within .0)), omega (arith, past-le b j e (w .within .1)), omega (arith, t .further, w .within .2));
+          zeros = drop-set-lt (count + 1) xs count e (omega arith) ∙ sym (drop-drop 1 count xs) ∙ ap (drop 1) (w .zeros) ∙ drop-drop 1 count (replicate 64 0);
           so-far = rw (add-one count, take-suc-set xs count e room, qi, qj)
               (append-snoc (take count xs) e (merge (drop (past a i e) (identifiers a)) (drop (past b j e) (identifiers b)))
               ∙ ap (λ (l : List ℕ). take count xs ++ l) (sym (t .rest))
@@ -212,7 +214,7 @@ module _ (a b : List ℕ) (xs : List ℕ) where
         omega (arith, t .further),
       )
 
-  pub walked-all : (f : Framed a) (g : Framed b) (count i j : ℕ) → Walked a b xs count i j → events a + events b ≤ i + j → (count ≡ length (merged a b)) × (take count xs ≡ merged a b)
+  pub walked-all : (f : Framed a) (g : Framed b) (count i j : ℕ) → Walked a b xs count i j → events a + events b ≤ i + j → (count ≡ length (merged a b)) × ((take count xs ≡ merged a b) × (drop count xs ≡ drop count (replicate 64 0)))
   walked-all f g count i j w h =
       let ia : i ≡ events a = omega (arith, w .within .0, w .within .1) in
       let jb : j ≡ events b = omega (arith, w .within .0, w .within .1) in
@@ -221,4 +223,4 @@ module _ (a b : List ℕ) (xs : List ℕ) where
       let rest : merge (drop i (identifiers a)) (drop j (identifiers b)) ≡ [] = rw (first, second) (merge-none []) in
       let all : take count xs ≡ merged a b = sym (append-nil (take count xs)) ∙ ap (λ (l : List ℕ). take count xs ++ l) (sym rest) ∙ w .so-far in
       let few : count ≤ length xs = omega (arith, w .size, w .within .2, f .most-events, g .most-events) in
-      (sym (length-take-le count xs few) ∙ ap length all, all)
+      (sym (length-take-le count xs few) ∙ ap length all, (all, w .zeros))

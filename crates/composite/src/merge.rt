@@ -1,14 +1,14 @@
 // The merged entries of two records (specs/Merge.antt, specs/Joined.antt).
 ghost use mathlib.Core.Path.{_≡_};
 ghost use Prim.Native.Nat.{_+_, _<_, _≤_};
-ghost use lib.ListN.{length, take, replicate};
+ghost use lib.ListN.{length, take, drop, replicate};
 ghost use Rattle.part.specs.Record.{events, Framed};
 ghost use Rattle.composite.specs.Joined.{merged};
 ghost use Rattle.composite.specs.Walk.{entry, comes-first, next-entry, past};
 use part::Part;
 use words::le;
 
-// The identifiers of the merged entries: the first `count` of the array.
+// The identifiers of the merged entries: the first `count` of the array, and zeros behind them.
 pub struct Merged {
     pub count: usize,
     pub identifiers: [usize; 64],
@@ -78,6 +78,7 @@ pub fn merge<'a>(a: &'a [u8], b: &'a [u8]) -> Merged
     requires { ⌜ Framed (now b) ⌝ }
     ensures { λ r. ⌜ r .count ≡ length (merged (now (a .entry)) (now (b .entry))) ⌝ }
     ensures { λ r. ⌜ take (r .count) (r .identifiers) ≡ merged (now (a .entry)) (now (b .entry)) ⌝ }
+    ensures { λ r. ⌜ drop (r .count) (r .identifiers) ≡ drop (r .count) (replicate 64 0) ⌝ }
 {
     let total = Part::events(a) + Part::events(b);
     let mut identifiers = zeros();

@@ -16,7 +16,7 @@ use crate::answer::Obstacle;
 use part::Part;
 
 // What a shared event becomes, by its kinds in the two parts: an internal event, or none.
-const INTERNAL: usize = 2;
+const INTERNAL: usize = Part::INTERNAL;
 
 const CLASH: usize = 3;
 

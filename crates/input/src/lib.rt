@@ -1,7 +1,9 @@
 // Standard input, read to its end.
+ghost use Prim.Native.Nat.{_≤_};
 ghost use lib.ListN.{length};
-ghost use Rattle.input.specs.Input.{Within};
+ghost use Rattle.input.specs.Input.{Within, Brought};
 use libc::STDIN_FILENO;
+use words::copy::lay;
 
 // How many bytes were read, or that a read failed.
 pub enum Input {
@@ -9,20 +11,45 @@ pub enum Input {
     Failed,
 }
 
-// One read to the start of the bytes. 0 bytes are read at the end of the input.
-fn read_some(bytes: &mut [u8]) -> Input
-    ensures { λ r. ⌜ Within r (length (now (bytes .entry))) ⌝ }
+// At most the bytes of a chunk.
+fn within_chunk(n: usize) -> usize
+    ensures { λ r. ⌜ r ≤ n ⌝ }
+    ensures { λ r. ⌜ r ≤ 4096 ⌝ }
 {
-    let got = libc::read(STDIN_FILENO, bytes);
+    if n < 4096 {
+        return n;
+    }
+    4096
+}
+
+// One read of at most so many bytes to the start of the chunk. 0 bytes are read at the end of the input.
+fn read_chunk(chunk: &mut [u8], most: usize) -> Input
+    requires { ⌜ most ≤ length (now chunk) ⌝ }
+    ensures { λ r. ⌜ Within r most ⌝ }
+{
+    let got = libc::read(STDIN_FILENO, &mut chunk[..most]);
     if got < 0 {
         return Input::Failed;
     }
-    Input::Read(io::count(got, bytes))
+    Input::Read(io::count(got, &chunk[..most]))
+}
+
+// One read to the start of the bytes, by way of a chunk: the system call does not promise that what lies behind the bytes read stays.
+fn read_some(bytes: &mut [u8]) -> Input
+    ensures { λ r. ⌜ Brought r (now (bytes .entry)) (now (bytes .exit)) ⌝ }
+{
+    let mut chunk = io::buffer();
+    let read = read_chunk(&mut chunk, within_chunk(bytes.len()));
+    let Input::Read(n) = read else {
+        return Input::Failed;
+    };
+    lay(&chunk[..n], bytes, 0);
+    Input::Read(n)
 }
 
 // Reads until the input ends or the bytes are full. What was read stands at their start.
 pub fn read_all(bytes: &mut [u8]) -> Input
-    ensures { λ r. ⌜ Within r (length (now (bytes .entry))) ⌝ }
+    ensures { λ r. ⌜ Brought r (now (bytes .entry)) (now (bytes .exit)) ⌝ }
 {
     let mut n = 0;
     while n < bytes.len() {

@@ -39,7 +39,7 @@ fn sort_of(a: &[u8], b: &[u8], e: usize, i: usize, j: usize) -> Sort
         };
     }
     Sort {
-        kind: Part::EVENT_KIND as u8,
+        kind: Part::INTERNAL as u8,
         level: Part::level(a, i),
     }
 }

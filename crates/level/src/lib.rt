@@ -6,12 +6,16 @@ ghost use Rattle.level.specs.Level.{rank, compartments, at-or-below, low
 pub struct Level;
 
 impl Level {
-    // Bits 5 to 0 are compartments; the rank counts from the bit above them.
+    // Bits 7 and 6 are the rank.
+    pub const MAX_RANK: u8 = 3;
+
+    // Bits 5 to 0 are compartments.
     pub const COMPARTMENTS: u8 = 6;
 
-    pub const ONE_RANK: u8 = 1 << Level::COMPARTMENTS;
+    // The ranks share the 256 levels evenly.
+    const ONE_RANK: u8 = 255 / (Level::MAX_RANK + 1) + 1;
 
-    pub const MAX_RANK: u8 = 255 / Level::ONE_RANK;
+    const COMPARTMENT_SETS: u8 = 1 << Level::COMPARTMENTS;
 
     pub fn rank(level: u8) -> u8
         ensures { λ r. ⌜ r ≡ rank level ⌝ }
@@ -22,7 +26,7 @@ impl Level {
     pub fn compartments(level: u8) -> u8
         ensures { λ r. ⌜ r ≡ compartments level ⌝ }
     {
-        level % Level::ONE_RANK
+        level % Level::COMPARTMENT_SETS
     }
 
     // a is at or below b: each compartment of a that b has too is all of a's.

@@ -1,8 +1,9 @@
 // The part type: its limits, and each field of its record (specs/Record.antt).
 ghost use mathlib.Core.Path.{_≡_};
-ghost use Prim.Native.Nat.{ℕ, _+_, _<_, _≤_, _^_, max};
+ghost use Prim.Native.Nat.{_+_, _<_, _≤_, _^_, max};
 ghost use mathlib.Core.Bool.{true};
-ghost use lib.ListN.{length, getD};
+ghost use lib.ListN.{length};
+ghost use Rattle.words.specs.Arrays.{Filled, words-of};
 ghost use Rattle.part.specs.Record.{body-length, kind, observer, states, start, events, class, classes-below, entry-at, identifier, event-kind, level, row-at, row, Rising, Framed};
 ghost use Rattle.part.specs.Machine.{place-or-end};
 use words::le;
@@ -27,13 +28,16 @@ impl Part {
 
     pub const HEADER: usize = 6;
 
-    pub const BODY: usize = 4 + Part::STATES + 4 * Part::EVENTS + 8 * Part::EVENTS * Part::STATES;
+    const BODY: usize = 4 + Part::STATES + 4 * Part::EVENTS + 8 * Part::EVENTS * Part::STATES;
 
     pub const RECORD: usize = Part::HEADER + Part::BODY;
 
     pub const KIND: usize = 1;
 
-    pub const EVENT_KIND: usize = 2;
+    // A shared event becomes internal, the last of the three kinds of event.
+    pub const INTERNAL: usize = 2;
+
+    pub const EVENT_KIND: usize = Part::INTERNAL;
 
     pub fn body_length(b: &[u8]) -> usize
         requires { ⌜ 6 ≤ length (now b) ⌝ }
@@ -227,11 +231,11 @@ impl Part {
         le::u64_at(b, at + 8 * s)
     }
 
-    // Over out: the rows of the event at place i.
+    // Over the start of out: the rows of the event at place i.
     pub fn copy_rows(out: &mut [u64; 64], b: &[u8], i: usize)
         requires { ⌜ Framed (now b) ⌝ }
         requires { ⌜ i < events (now b) ⌝ }
-        ensures { λ _. ⌜ ((s : ℕ) → s < states (now (b .entry)) → getD (now (out .exit)) s 0 ≡ row (now (b .entry)) i s) ⌝ }
+        ensures { λ _. ⌜ Filled (words-of (row (now (b .entry)) i)) (states (now (b .entry))) (now (out .entry)) (now (out .exit)) ⌝ }
     {
         let n = Part::states(b);
         let at = Part::rows(b, i);

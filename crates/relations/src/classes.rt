@@ -8,54 +8,55 @@ ghost use Rattle.relations.specs.Sets.{ClassesBelow, Owns, Members, Mate
 use part::Part;
 use words::set;
 
-// Over out: the class of each state, as a set of one.
-pub fn put_own(out: &mut [u64; 64], b: &[u8])
+// By state, its class as a set of one.
+pub fn own(b: &[u8]) -> [u64; 64]
     requires { ⌜ Framed (now b) ⌝ }
     requires { ⌜ ClassesBelow (now b) ⌝ }
-    ensures { λ _. ⌜ Owns (now (b .entry)) (now (out .exit)) ⌝ }
+    ensures { λ r. ⌜ Owns (now (b .entry)) r ⌝ }
 {
     let n = Part::states(b);
-    let words = &mut out[..];
+    let mut sets = set::empties();
     let mut s = 0;
     while s < n {
-        words[s] = set::single(Part::class(b, s));
+        sets[s] = set::single(Part::class(b, s));
         s += 1;
     }
+    sets
 }
 
-// Over empty sets: by class, its states.
-fn put_members(out: &mut [u64; 64], b: &[u8])
+// By class, its states.
+fn members(b: &[u8]) -> [u64; 64]
     requires { ⌜ Framed (now b) ⌝ }
     requires { ⌜ ClassesBelow (now b) ⌝ }
-    requires { ⌜ now out ≡ replicate 64 0 ⌝ }
-    ensures { λ _. ⌜ Members (now (b .entry)) (now (out .exit)) ⌝ }
+    ensures { λ r. ⌜ Members (now (b .entry)) r ⌝ }
 {
     let n = Part::states(b);
-    let sets = &mut out[..];
+    let mut sets = set::empties();
     let mut s = 0;
     while s < n {
         let c = Part::class(b, s);
         sets[c] = set::union(sets[c], set::single(s));
         s += 1;
     }
+    sets
 }
 
-// Over out: by state, the states of its class. `members` are empty sets.
-pub fn put_mates(out: &mut [u64; 64], b: &[u8], members: &mut [u64; 64])
+// By state, the states of its class.
+pub fn mates(b: &[u8]) -> [u64; 64]
     requires { ⌜ Framed (now b) ⌝ }
     requires { ⌜ ClassesBelow (now b) ⌝ }
-    requires { ⌜ now members ≡ replicate 64 0 ⌝ }
-    ensures { λ _. ⌜ Mates (now (b .entry)) (now (out .exit)) ⌝ }
+    ensures { λ r. ⌜ Mates (now (b .entry)) r ⌝ }
 {
     let n = Part::states(b);
-    put_members(members, b);
-    let words = &mut out[..];
+    let members = members(b);
+    let mut sets = set::empties();
     let mut s = 0;
     while s < n {
         let c = Part::class(b, s);
-        words[s] = members[c];
+        sets[s] = members[c];
         s += 1;
     }
+    sets
 }
 
 // No two states share a class.
@@ -126,8 +127,7 @@ pub fn put_agreed(out: &mut [u64; 64], b: &[u8], offers: &[u64; 64])
     ensures { λ _. ⌜ Agreed (now (b .entry)) (now (offers .entry)) (now (out .exit)) ⌝ }
 {
     let n = Part::states(b);
-    let mut members = [0u64; 64];
-    put_members(&mut members, b);
+    let members = members(b);
     let mut common = [18446744073709551615u64; 64];
     put_common(&mut common, b, offers);
     let words = &mut out[..];

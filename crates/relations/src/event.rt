@@ -2,8 +2,10 @@
 ghost use mathlib.Core.Path.{_≡_};
 ghost use Prim.Native.Nat.{ℕ, _<_};
 ghost use lib.ListN.{getD};
-ghost use Rattle.part.specs.Record.{events, Framed};
-ghost use Rattle.relations.specs.Sets.{own-rule, rule-of, Spoken, LookedUp};
+ghost use Rattle.words.specs.Arrays.{Filled, sets-of};
+ghost use Rattle.words.specs.Sets.{gathered};
+ghost use Rattle.part.specs.Record.{states, events, row, Framed};
+ghost use Rattle.relations.specs.Sets.{own-rule, rule-of, Spoken};
 use level::Level;
 use part::Part;
 use words::set;
@@ -52,11 +54,11 @@ pub fn spoken(b: &[u8]) -> [u64; 5]
     sets
 }
 
-// Over out: of each state, what the event at place i leads to, looked up in the table.
+// Over the start of out: of each state, what the event at place i leads to, looked up in the table.
 pub fn look_up(out: &mut [u64; 64], b: &[u8], i: usize, table: &[u64; 64])
     requires { ⌜ Framed (now b) ⌝ }
     requires { ⌜ i < events (now b) ⌝ }
-    ensures { λ _. ⌜ LookedUp (now (b .entry)) i (now (table .entry)) (now (out .exit)) ⌝ }
+    ensures { λ _. ⌜ Filled (sets-of (λ s. gathered 64 (row (now (b .entry)) i s) (now (table .entry)))) (states (now (b .entry))) (now (out .entry)) (now (out .exit)) ⌝ }
 {
     let n = Part::states(b);
     let at = Part::rows(b, i);

@@ -2,8 +2,9 @@
 -- The numbers are decimal.
 use Prim.Native.Nat.{ℕ}
 use mathlib.Core.List.{List, [], _∷_, _++_}
+use lib.ListN.{take}
 use Rattle.text.specs.Decimal.{decimal}
-use Rattle.restrictive.specs.Verdict.{Verdict, pass, refused, breaks}
+use Rattle.restrictive.specs.Verdict.{Verdict, pass, refused, breaks, verdict}
 
 -- "pass"
 abbrev pub pass-text : List ℕ
@@ -47,3 +48,11 @@ line (breaks v) =
     ++ (to-text ++ decimal (v .t))
     ++ (other-text ++ decimal (v .u))
     ++ line-end
+
+-- An input is judged by its first 65,536 bytes.
+abbrev pub judged : ℕ
+judged = 65536
+
+-- The line of an input.
+unfoldable pub line-of : List ℕ → List ℕ
+line-of input = line (verdict (take judged input))

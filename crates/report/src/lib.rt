@@ -1,20 +1,24 @@
-// The line that is printed for a verdict (specs/Line.antt).
+// The line that is printed for a verdict, and for an input (specs/Line.antt).
 ghost use mathlib.Core.Path.{_≡_};
 ghost use mathlib.Core.List.{_++_};
 ghost use Prim.Native.Nat.{_≤_};
-ghost use lib.ListN.{length, drop};
+ghost use lib.ListN.{length, take, drop};
 ghost use Rattle.part.specs.Answers.{number-of};
 ghost use Rattle.restrictive.specs.Answers.{named, means};
-ghost use Rattle.restrictive.specs.Verdict.{refused, breaks};
-ghost use Rattle.report.specs.Line.{line};
+ghost use Rattle.restrictive.specs.Verdict.{refused, breaks, verdict};
+ghost use Rattle.report.specs.Line.{line, judged, line-of};
 use part::Rejection;
 use restrictive::Verdict;
 use restrictive::Violation;
+use restrictive::call::check;
 use text::decimal::labelled;
 use words::copy::lay;
 
 // How long a line can be: five numbers have 20 digits each at most, and the words around them 30 bytes.
 pub const LINE: usize = 160;
+
+// An input is judged by so many bytes at most.
+pub const JUDGED: usize = 65536;
 
 fn refusal(r: Rejection, out: &mut [u8; LINE]) -> usize
     ensures { λ n. ⌜ n ≡ length (line (refused (number-of r))) ⌝ }
@@ -48,4 +52,22 @@ pub fn line(v: Verdict, out: &mut [u8; LINE]) -> usize
         Verdict::Refused(r) => refusal(r, out),
         Verdict::Break(b) => violation(b, out),
     }
+}
+
+// The verdict on the first bytes of an input.
+fn judge(input: &[u8]) -> Verdict
+    ensures { λ r. ⌜ means r ≡ verdict (take judged (now (input .entry))) ⌝ }
+{
+    if JUDGED < input.len() {
+        return check(&input[..JUDGED]);
+    }
+    check(input)
+}
+
+// Writes the line of an input to the start of out, and answers its length. The rest of out stays.
+pub fn line_of(input: &[u8], out: &mut [u8; LINE]) -> usize
+    ensures { λ r. ⌜ r ≡ length (line-of (now (input .entry))) ⌝ }
+    ensures { λ r. ⌜ now (out .exit) ≡ line-of (now (input .entry)) ++ drop r (now (out .entry)) ⌝ }
+{
+    line(judge(input), out)
 }

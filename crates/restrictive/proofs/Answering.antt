@@ -100,12 +100,12 @@ module _ (b : List ℕ) (framed : Framed b) (within : RowsWithin b) where
   pub reached-classes : (closure own words : List ℕ) → Rows (states b) closure (reach b) → Owns b own
       → Rows (states b) words (λ s. gathered 64 (getD closure s 0) own) → Rows (states b) words (reached b)
   unfolding reached
-  reached-classes closure own words closed owns g s h c = g s h c ∙ closure-as closure own (λ t x. eqb (class b t) x) closed owns s h c
+  reached-classes closure own words closed owns g s h c = g s h c ∙ closure-as closure own (λ t x. eqb (class b t) x) closed (owns .words) s h c
 
   -- rule 3
   pub direct-led : (own : List ℕ) → Owns b own → Direct b 2 own
   unfolding offer rule-at led-to
-  direct-led own owns i p words up s h c = up s h c ∙ looked-as i s own (λ t x. eqb (class b t) x) p h owns c
+  direct-led own owns i p words up s h c = up s h c ∙ looked-as i s own (λ t x. eqb (class b t) x) p h (owns .words) c
 
   -- rule 5
   pub around-offers : (closure table : List ℕ) → Rows (states b) closure (reach b) → Rows (states b) table (reached b) → Around b 4 closure table
@@ -155,7 +155,7 @@ module _ (b : List ℕ) (framed : Framed b) (within : RowsWithin b) where
     pub direct-alone : (own : List ℕ) → Owns b own → Direct b 4 own
     unfolding offer rule-at
     direct-alone own owns i p words up s h c =
-        up s h c ∙ looked-as i s own (λ t x. eqb (class b t) x) p h owns c
+        up s h c ∙ looked-as i s own (λ t x. eqb (class b t) x) p h (owns .words) c
         ∙ sym (any-same (states b) (λ q. leads b i s q && reached b q c) (λ q. leads b i s q && eqb (class b q) c) (λ q l. ap (λ (r : Bool). leads b i s q && r) (reached-own q c l)))
         ∙ sym (any-self (states b) s (λ v. any (states b) (λ q. leads b i v q && reached b q c)) h)
         ∙ sym (any-same (states b) _ _ (λ v l. ap (λ (r : Bool). r && any (states b) (λ q. leads b i v q && reached b q c)) (reach-alone s v)))
@@ -176,5 +176,5 @@ agreed-permitted b k i offers words o g s h t l =
 pub mates-permitted : (b : List ℕ) (words : List ℕ) → Mates b words → (i : ℕ) → Permitted b 1 i words
 unfolding rule-at same-class
 mates-permitted b words g i s h t l =
-    g s h t ∙ and-now (ltb t (states b)) (eqb (class b t) (class b s)) (lt-ltb _ _ l) ∙ eqb-swap (class b t) (class b s)
+    g .words s h t ∙ and-now (ltb t (states b)) (eqb (class b t) (class b s)) (lt-ltb _ _ l) ∙ eqb-swap (class b t) (class b s)
     ∙ sym (permits-own b i s (class b t) h)

@@ -3,7 +3,7 @@ ghost use mathlib.Core.Path.{_≡_};
 ghost use Prim.Native.Nat.{ℕ, _<_, _≤_};
 ghost use mathlib.Core.Bool.{true, false};
 ghost use mathlib.Core.Option.{none};
-ghost use lib.ListN.{getD, replicate};
+ghost use lib.ListN.{getD};
 ghost use Rattle.bounded.specs.Search.{first};
 ghost use Rattle.part.specs.Record.{states, events, Framed};
 ghost use Rattle.words.specs.Sets.{Rows};
@@ -136,19 +136,18 @@ fn by_event(
     Found::Nothing
 }
 
-// Rule 2. `highs` is the set of the high inputs; `members` are empty sets.
-fn rule_2(b: &[u8], highs: u64, members: &mut [u64; 64], mates: &mut [u64; 64]) -> Found
+// Rule 2. `highs` is the set of the high inputs.
+fn rule_2(b: &[u8], highs: u64) -> Found
     requires { ⌜ Framed (now b) ⌝ }
     requires { ⌜ ClassesBelow (now b) ⌝ }
     requires { ⌜ Spoken (now b) 1 highs ⌝ }
-    requires { ⌜ now members ≡ replicate 64 0 ⌝ }
     ensures { λ r. ⌜ shows r ≡ rule-violation (now (b .entry)) 1 ⌝ }
 {
     if highs == 0 {
         return Found::Nothing;
     }
-    classes::put_mates(mates, b, members);
-    by_fixed(b, 1, highs, mates, mates)
+    let mates = classes::mates(b);
+    by_fixed(b, 1, highs, &mates, &mates)
 }
 
 // Rule 4, with the classes that silent steps lead to: none where the states of a class reach the same.
@@ -192,24 +191,25 @@ fn with_silent(
 }
 
 // Rules 3 to 5.
-fn rules_from_3(b: &[u8], spoken: &[u64; 5], room: &mut [u64; 64], offers: &mut [u64; 64]) -> Found
+fn rules_from_3(b: &[u8], spoken: &[u64; 5]) -> Found
     requires { ⌜ Framed (now b) ⌝ }
     requires { ⌜ RowsWithin (now b) × ClassesBelow (now b) ⌝ }
     requires { ⌜ ((k : ℕ) → k < 5 → Spoken (now b) k (getD (now spoken) k 0)) ⌝ }
     requires { ⌜ first 2 (rule-violation (now b)) ≡ none ⌝ }
     ensures { λ r. ⌜ shows r ≡ first-violation (now (b .entry)) ⌝ }
 {
-    let mut own = [0u64; 64];
-    classes::put_own(&mut own, b);
-    let found = by_event(b, 2, spoken[2], false, &own, &own, room, offers);
+    let own = classes::own(b);
+    let mut room = [0u64; 64];
+    let mut offers = [0u64; 64];
+    let found = by_event(b, 2, spoken[2], false, &own, &own, &mut room, &mut offers);
     match found {
         Found::At(_) => return found,
         Found::Nothing => {}
     }
     if spoken[3] == 0 {
-        return by_event(b, 4, spoken[4], false, &own, &own, room, offers);
+        return by_event(b, 4, spoken[4], false, &own, &own, &mut room, &mut offers);
     }
-    with_silent(b, spoken, &own, room, offers)
+    with_silent(b, spoken, &own, &mut room, &mut offers)
 }
 
 // Rules 2 to 5. Where no two states share a class, rules 3 to 5 ask nothing.
@@ -220,9 +220,7 @@ fn rules_from_2(b: &[u8], spoken: &[u64; 5]) -> Found
     requires { ⌜ first 1 (rule-violation (now b)) ≡ none ⌝ }
     ensures { λ r. ⌜ shows r ≡ first-violation (now (b .entry)) ⌝ }
 {
-    let mut room = [0u64; 64];
-    let mut offers = [0u64; 64];
-    let found = rule_2(b, spoken[1], &mut room, &mut offers);
+    let found = rule_2(b, spoken[1]);
     match found {
         Found::At(_) => return found,
         Found::Nothing => {}
@@ -230,7 +228,7 @@ fn rules_from_2(b: &[u8], spoken: &[u64; 5]) -> Found
     if classes::distinct(b) {
         return Found::Nothing;
     }
-    rules_from_3(b, spoken, &mut room, &mut offers)
+    rules_from_3(b, spoken)
 }
 
 // The first violation of the rules.

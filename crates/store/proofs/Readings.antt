@@ -5,13 +5,17 @@ use mathlib.Core.List.{List, [], _∷_, _++_, flatten, append-assoc, append-nil}
 use mathlib.Core.Option.{Option, none, some, Option·map}
 use native.Mathlib.Nat.{not-suc-le-zero, le-of-suc-le-suc}
 use native.Mathlib.Numerals.{add-one}
+use native.Mathlib.Decide.{decLt}
 use native.Mathlib.Omega.{arith}
 use lib.ListN.{length, take, drop, getD, length-append, take-append-drop, List·getD-eq-default}
-use lib.Seq.{take-append-seam, drop-append-add}
+use lib.Seq.{take-append-seam, drop-append-add, length-take-le}
 use Rattle.store.specs.Answer.{gives, refused}
 use Rattle.store.specs.Walk.{Front, end-record, record-of, neither, front, walk-at-most, walk, records}
 use Rattle.store.specs.Reading.{count, part}
 use Rattle.store.specs.Demand.{Begins}
+use Rattle.store.specs.Theorems.{NoPart, no-end, no-record, PartEmptyExactly}
+use Rattle.store.proofs.Each.{Each, each-at}
+use Rattle.store.proofs.Fronts.{record-whole}
 
 -- ---- Count
 
@@ -51,46 +55,56 @@ pub uncounted : (s : List ℕ) → refused 12 ≡ count s → records s ≡ []
 unfolding records
 uncounted s e = rw (endless s e, records)
 
--- ---- the records of a walk stand at the start
+-- ---- what holds of the records of a walk
 
-begins-step : (k : ℕ) (s : List ℕ) (rs : List (List ℕ)) (f : Front) → front s ≡ f
-    → ((t : List ℕ) (qs : List (List ℕ)) → walk-at-most k t ≡ some qs → Begins t (flatten qs))
-    → walk-at-most (suc k) s ≡ some rs
-    → Begins s (flatten rs)
-unfolding walk-at-most flatten
-begins-step k s rs end-record e more h =
-    let found : some [] ≡ some rs = rw (e, walk-at-most) at h in
-    let all : [] ≡ rs = cc in
-    record { rest = s; so = rw (← all) }
-begins-step k s rs neither e more h =
-    let found : none ≡ some rs = rw (e, walk-at-most) at h in
-    let z : _≡_ {A = ℕ} 0 1 = cc in
-    absurd (omega arith)
-begins-step k s rs (record-of n) e more h = go (walk-at-most k (drop n s)) refl (rw (e, walk-at-most) at h)
-  where
-    go : (o : Option (List (List ℕ))) → walk-at-most k (drop n s) ≡ o
-        → Option·map (λ (qs : List (List ℕ)). take n s ∷ qs) o ≡ some rs
-        → Begins s (flatten rs)
-    go none q found = let z : _≡_ {A = ℕ} 0 1 = cc in absurd (omega arith)
-    go (some qs) q found =
-        let all : take n s ∷ qs ≡ rs = cc in
-        let behind = more (drop n s) qs q in
-        record {
-          rest = behind .rest;
-          so = rw (← all)
-              (sym (take-append-drop n s)
-              ∙ ap (λ (t : List ℕ). take n s ++ t) (behind .so)
-              ∙ sym (append-assoc (take n s) (flatten qs) (behind .rest)));
-        }
+-- Q holds of bytes and what a walk of them finds, if it does at an end record, and before a record where it does behind it.
+module _ (Q : List ℕ → List (List ℕ) → Type 0) (at-end : (s : List ℕ) → Q s [])
+    (before : (s : List ℕ) (qs : List (List ℕ)) (n : ℕ) → front s ≡ record-of n → Q (drop n s) qs → Q s (take n s ∷ qs)) where
+  found-step : (k : ℕ) (s : List ℕ) (rs : List (List ℕ)) (f : Front) → front s ≡ f
+      → ((t : List ℕ) (qs : List (List ℕ)) → walk-at-most k t ≡ some qs → Q t qs)
+      → walk-at-most (suc k) s ≡ some rs
+      → Q s rs
+  unfolding walk-at-most
+  found-step k s rs end-record e more h =
+      let found : some [] ≡ some rs = rw (e, walk-at-most) at h in
+      let all : [] ≡ rs = cc in
+      rw (← all) (at-end s)
+  found-step k s rs neither e more h =
+      let found : none ≡ some rs = rw (e, walk-at-most) at h in
+      let z : _≡_ {A = ℕ} 0 1 = cc in
+      absurd (omega arith)
+  found-step k s rs (record-of n) e more h = go (walk-at-most k (drop n s)) refl (rw (e, walk-at-most) at h)
+    where
+      go : (o : Option (List (List ℕ))) → walk-at-most k (drop n s) ≡ o → Option·map (λ (qs : List (List ℕ)). take n s ∷ qs) o ≡ some rs → Q s rs
+      go none q found = let z : _≡_ {A = ℕ} 0 1 = cc in absurd (omega arith)
+      go (some qs) q found = let all : take n s ∷ qs ≡ rs = cc in rw (← all) (before s qs n e (more (drop n s) qs q))
 
-begins-at-most : (k : ℕ) (s : List ℕ) (rs : List (List ℕ)) → walk-at-most k s ≡ some rs → Begins s (flatten rs)
-unfolding walk-at-most
-begins-at-most zero s rs h = let z : _≡_ {A = ℕ} 0 1 = cc in absurd (omega arith)
-begins-at-most (suc k) s rs h = begins-step k s rs (front s) refl (λ t qs q. begins-at-most k t qs q) h
+  found-at-most : (k : ℕ) (s : List ℕ) (rs : List (List ℕ)) → walk-at-most k s ≡ some rs → Q s rs
+  unfolding walk-at-most
+  found-at-most zero s rs h = let z : _≡_ {A = ℕ} 0 1 = cc in absurd (omega arith)
+  found-at-most (suc k) s rs h = found-step k s rs (front s) refl (λ t qs q. found-at-most k t qs q) h
 
-pub walk-begins : (s : List ℕ) (rs : List (List ℕ)) → walk s ≡ some rs → Begins s (flatten rs)
-unfolding walk
-walk-begins s rs h = begins-at-most (suc (length s)) s rs h
+  walk-found : (s : List ℕ) (rs : List (List ℕ)) → walk s ≡ some rs → Q s rs
+  unfolding walk
+  walk-found s rs h = found-at-most (suc (length s)) s rs h
+
+-- They stand at the start.
+walk-begins : (s : List ℕ) (rs : List (List ℕ)) → walk s ≡ some rs → Begins s (flatten rs)
+unfolding flatten
+walk-begins =
+    walk-found (λ s rs. Begins s (flatten rs)) (λ s. record { rest = s; so = refl })
+    (λ s qs n e behind. record {
+      rest = behind .rest;
+      so = sym (take-append-drop n s)
+          ∙ ap (λ (t : List ℕ). take n s ++ t) (behind .so)
+          ∙ sym (append-assoc (take n s) (flatten qs) (behind .rest));
+    })
+
+-- Each has a header.
+walk-headed : (s : List ℕ) (rs : List (List ℕ)) → walk s ≡ some rs → Each (λ r. 6 ≤ length r) rs
+walk-headed =
+    walk-found (λ s rs. Each (λ r. 6 ≤ length r) rs) (λ s. tt)
+    (λ s qs n e behind. let w = record-whole s n e in (omega (arith, length-take-le n s (w .within)), behind))
 
 -- ---- Part
 
@@ -123,6 +137,28 @@ piece (r ∷ rs) rest (suc i) l = rw (append-assoc, length-append, drop-append-a
 pub part-none : (s : List ℕ) (i : ℕ) → length (records s) ≤ i → [] ≡ part s i
 unfolding part
 part-none s i h = sym (List·getD-eq-default (records s) [] h)
+
+-- Part is empty exactly where there is no such record.
+pub part-empty-exactly : PartEmptyExactly
+unfolding part records
+part-empty-exactly s i = (empty-none (walk s) refl, none-empty)
+  where
+    empty-none : (o : Option (List (List ℕ))) → walk s ≡ o → part s i ≡ [] → NoPart s i
+    empty-none none q e = no-end q
+    empty-none (some rs) q e =
+        elim (decLt i (length rs)) [
+          | no l ↦ no-record q (omega arith)
+          | yes l ↦
+            let same : records s ≡ rs = rw (q, records) in
+            let headed = each-at (λ r. 6 ≤ length r) rs (walk-headed s rs q) i l in
+            let gone : length (getD rs i []) ≡ 0 = ap (λ (qs : List (List ℕ)). length (getD qs i [])) (sym same) ∙ ap length e in
+            absurd (omega arith)
+        ]
+
+    none-empty : NoPart s i → part s i ≡ []
+    none-empty (no-end q) = sym (part-none s i (rw (q, records) (omega arith)))
+    none-empty (no-record q h) = sym (part-none s i (rw (q, records) h))
+
 
 -- The bytes from where record i starts to where the next one does.
 pub part-between : (s : List ℕ) (n i a e : ℕ) → Counted s n → i < n → a ≡ place (records s) i → e ≡ place (records s) (i + 1)

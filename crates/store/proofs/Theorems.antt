@@ -78,6 +78,7 @@ demand3 s six calls b =
       size = h .size;
       same-answers = all .same;
       foreseen = all .foreseen;
+      held = records-are n _ _ h;
       counted = count-is n _ _ h;
       hidden = part-hides n _ _ h;
     }

@@ -8,6 +8,7 @@ use Rattle.words.specs.LittleEndian.{Bytes}
 use Rattle.part.specs.Rejections.{Accepted}
 use Rattle.part.specs.Machine.{machine, observation}
 use Rattle.store.specs.Answer.{Answer, gives, refused}
+use Rattle.store.specs.Walk.{records}
 use Rattle.store.specs.Reading.{count, part}
 use Rattle.store.specs.Calls as shelf
 use Rattle.store.specs.Calls.{Left, end-bytes}
@@ -56,12 +57,14 @@ AllForeseen [] = Unit {0}
 AllForeseen (a ∷ rest) = Foreseen a × AllForeseen rest
 
 -- After a first clear and the calls: the shelf begins with exactly the model's records, one behind the other, and then the end record; it is as
--- long as it was; every answer is the model's, and none is 12 or 14; Count is the number of the model's records; and every part on the shelf hides its high inputs.
+-- long as it was; every answer is the model's, and none is 12 or 14; the records on the shelf are the model's, and Count is their number; and
+-- every part on the shelf hides its high inputs.
 pub record Meets (s : List ℕ) (calls : List Call) : Type 0 where
   pub begins : Begins (shelf-after (clear ∷ calls) s) (flatten (records-after (length s) (clear ∷ calls) []) ++ end-bytes)
   pub size : length (shelf-after (clear ∷ calls) s) ≡ length s
   pub same-answers : shelf-answers (clear ∷ calls) s ≡ answers (length s) (clear ∷ calls) []
   pub foreseen : AllForeseen (shelf-answers (clear ∷ calls) s)
+  pub held : records (shelf-after (clear ∷ calls) s) ≡ records-after (length s) (clear ∷ calls) []
   pub counted : count (shelf-after (clear ∷ calls) s) ≡ gives (length (records-after (length s) (clear ∷ calls) []))
   pub hidden : (i : ℕ) → i < length (records-after (length s) (clear ∷ calls) []) → Hides (part (shelf-after (clear ∷ calls) s) i)
 

@@ -48,11 +48,12 @@ unfoldable plainly : ℕ → List Call → List Answer
 unfolding judged hooked answered answers model.step model.load-record model.hookup-records model.append obstacle-answer flatten
 plainly n calls = answers n calls []
 
+-- The second and third appends are found again: Q's input 2 clashes with the joined part's internal event 2.
 abbrev calls : List Call
-calls = clear ∷ load P ∷ load Q ∷ hookup 0 1 ∷ hookup 0 0 ∷ hookup 2 7 ∷ load (take 5 P) ∷ clear ∷ hookup 0 0 ∷ []
+calls = clear ∷ load P ∷ load Q ∷ hookup 0 1 ∷ hookup 1 2 ∷ hookup 0 0 ∷ hookup 2 7 ∷ load (take 5 P) ∷ clear ∷ hookup 0 0 ∷ []
 
 abbrev expected : List Answer
-expected = gives 0 ∷ gives 0 ∷ gives 1 ∷ gives 2 ∷ clash 1 ∷ refused 13 ∷ refused 1 ∷ gives 0 ∷ refused 13 ∷ []
+expected = gives 0 ∷ gives 0 ∷ gives 1 ∷ gives 2 ∷ clash 2 ∷ clash 1 ∷ refused 13 ∷ refused 1 ∷ gives 0 ∷ refused 13 ∷ []
 
 all-so : Bool
 unfolding run plainly

@@ -4,5 +4,6 @@ pub mod Answers
 pub mod Reading
 pub mod Calls
 pub mod Model
+pub mod Theorems
 pub mod Demand
 pub mod Examples

@@ -1,7 +1,8 @@
 // Clear, Load and Hookup (document 01, "The shelf").
 ghost use mathlib.Core.Path.{_≡_};
-ghost use Prim.Native.Nat.{_≤_};
-ghost use lib.ListN.{length, take};
+ghost use Prim.Native.Nat.{_-_, _≤_};
+ghost use lib.ListN.{length, take, drop, replicate};
+ghost use Rattle.part.specs.Limits.{max-record};
 ghost use Rattle.store.specs.Answers.{clears, loads, hooks};
 ghost use Rattle.store.specs.Calls.{clear, load, passes, hookup};
 use crate::answer::Clearing;
@@ -60,12 +61,13 @@ fn passes(r: &[u8]) -> bool
     }
 }
 
-// A copy of the record r, which the shelf may change under.
-fn copied(r: &[u8]) -> [u8; 16586]
-    requires { ⌜ length (now r) ≤ 16586 ⌝ }
+// A copy of the record r, which the shelf may change under, with zeros behind it.
+fn copied(r: &[u8]) -> [u8; Part::RECORD]
+    requires { ⌜ length (now r) ≤ max-record ⌝ }
     ensures { λ a. ⌜ take (length (now (r .entry))) a ≡ now (r .entry) ⌝ }
+    ensures { λ a. ⌜ drop (length (now (r .entry))) a ≡ replicate (max-record - length (now (r .entry))) 0 ⌝ }
 {
-    let mut a = [0u8; 16586];
+    let mut a = [0u8; Part::RECORD];
     lay(r, &mut a, 0);
     a
 }

@@ -1,53 +1,35 @@
--- Arrays of 64 words that a loop fills row by row. Assumes nothing.
+-- Arrays of 64 words that a loop fills word by word.
 use Prim.Native.Nat.{ℕ, _+_, _<_}
-use mathlib.Core.Path.{_≡_, ap, _∙_, subst}
-use mathlib.Core.Bool.{Bool}
+use mathlib.Core.Path.{_≡_, refl, sym, _∙_, subst}
 use mathlib.Core.List.{List}
 use native.Mathlib.Nat.{ne-of-lt}
 use native.Mathlib.Decide.{decLt}
 use native.Mathlib.Omega.{arith}
 use lib.Seq.{getD-set-same, getD-set-other}
-use lib.ListN.{length, getD, set, replicate, length-replicate, length-set}
-use Rattle.words.specs.Sets.{bit, Represents, Rows}
+use lib.ListN.{length, getD, set, replicate, length-set, length-replicate}
+use Rattle.words.specs.Arrays.{Filled}
 
--- One row more.
-rows-more : (xs : List ℕ) (test : ℕ → ℕ → Bool) (s x : ℕ) → s < length xs → Rows s xs test → Represents x (test s) → Rows (s + 1) (set xs s x) test
-rows-more xs test s x l before here u h t =
-    elim (decLt u s) [
-      | yes k ↦ ap (λ (y : ℕ). bit y t) (getD-set-other xs s u x 0 (ne-of-lt k)) ∙ before u k t
-      | no k ↦ let e : s ≡ u = omega arith in subst (λ (v : ℕ). bit (getD (set xs s x) v 0) t ≡ test v t) e (ap (λ (y : ℕ). bit y t) (getD-set-same xs s x 0 l) ∙ here t)
-    ]
+module _ {holds : ℕ → ℕ → Type 0} where
+  pub filled-start : {old : List ℕ} → length old ≡ 64 → Filled holds 0 old old
+  filled-start e = record { size = e; words = λ s h. absurd (omega arith); kept = λ s h. refl }
 
--- The first s rows pass the test.
-pub record Filled (test : ℕ → ℕ → Bool) (s : ℕ) (xs : List ℕ) : Type 0 where
-  pub size : length xs ≡ 64
-  pub rows : Rows s xs test
+  pub filled-none : {xs : List ℕ} → xs ≡ replicate 64 0 → Filled holds 0 (replicate 64 0) xs
+  filled-none e = subst (λ (xs : List ℕ). Filled holds 0 (replicate 64 0) xs) (sym e) (filled-start (length-replicate {A = ℕ} 64 0))
 
-module _ {test : ℕ → ℕ → Bool} {xs : List ℕ} where
-  pub filled-start : length xs ≡ 64 → Filled test 0 xs
-  filled-start e = record { size = e; rows = λ s h. absurd (omega arith) }
-
-  pub filled-none : xs ≡ replicate 64 0 → Filled test 0 xs
-  filled-none e = filled-start (ap length e ∙ length-replicate {A = ℕ} 64 0)
-
-  pub filled-more : {s : ℕ} (x : ℕ) → s < 64 → Filled test s xs → Represents x (test s) → Filled test (s + 1) (set xs s x)
-  filled-more {s} x l before here = record { size = length-set xs s x ∙ before .size; rows = rows-more xs test s x (omega arith) (before .rows) here }
-
--- The first s words are known.
-pub record Written (f : ℕ → ℕ) (s : ℕ) (xs : List ℕ) : Type 0 where
-  pub size : length xs ≡ 64
-  pub words : (u : ℕ) → u < s → getD xs u 0 ≡ f u
-
-module _ {f : ℕ → ℕ} {xs : List ℕ} where
-  pub written-start : length xs ≡ 64 → Written f 0 xs
-  written-start e = record { size = e; words = λ u h. absurd (omega arith) }
-
-  pub written-more : {s : ℕ} (x : ℕ) → s < 64 → Written f s xs → x ≡ f s → Written f (s + 1) (set xs s x)
-  written-more {s} x l before here = record {
+  pub filled-more : {old xs : List ℕ} {s : ℕ} (x : ℕ) → s < 64 → Filled holds s old xs → holds s x → Filled holds (s + 1) old (set xs s x)
+  filled-more {old} {xs} {s} x l before here = record {
     size = length-set xs s x ∙ before .size;
     words = λ u h.
         elim (decLt u s) [
-          | yes k ↦ getD-set-other xs s u x 0 (ne-of-lt k) ∙ before .words u k
-          | no k ↦ let e : s ≡ u = omega arith in subst (λ (v : ℕ). getD (set xs s x) v 0 ≡ f v) e (getD-set-same xs s x 0 (omega (arith, before .size)) ∙ here)
+          | yes k ↦ subst (holds u) (sym (getD-set-other xs s u x 0 (ne-of-lt k))) (before .words u k)
+          | no k ↦ let e : s ≡ u = omega arith in subst (λ (v : ℕ). holds v (getD (set xs s x) v 0)) e (subst (holds s) (sym (getD-set-same xs s x 0 (omega (arith, before .size)))) here)
         ];
+    kept = λ u h. getD-set-other xs s u x 0 (λ e. omega arith) ∙ before .kept u (omega arith);
   }
+
+  pub filled-end : {old xs : List ℕ} {s n : ℕ} → s ≡ n → Filled holds s old xs → Filled holds n old xs
+  filled-end {old} {xs} e before = subst (λ (n : ℕ). Filled holds n old xs) e before
+
+-- What each word holds, said in another way.
+pub filled-as : {holds says : ℕ → ℕ → Type 0} {old xs : List ℕ} {n : ℕ} → ((s x : ℕ) → s < n → holds s x → says s x) → Filled holds n old xs → Filled says n old xs
+filled-as {xs = xs} f before = record { size = before .size; words = λ s h. f s (getD xs s 0) h (before .words s h); kept = before .kept }

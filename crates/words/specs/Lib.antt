@@ -1,4 +1,5 @@
 pub mod Sets
+pub mod Arrays
 pub mod Pairs
 pub mod LittleEndian
 pub mod Laid

@@ -8,17 +8,17 @@ use Rattle.verdict.proofs.print.Statement.{statement}
 use Rattle.verdict.proofs.print.Tie as tie
 
 -- The line lies within the bytes that it was written to.
-within : (c : tie.After-answer) → c .answer .result ≤ length (c .answer .last .1 .0)
-within c = omega (arith, c .answer .ensures .0, simp length-append at (ap length (c .answer .ensures .1)))
+within : (c : tie.After-line-of) → c .line-of .result ≤ length (c .line-of .last .1 .0)
+within c = omega (arith, c .line-of .ensures .0, simp length-append at (ap length (c .line-of .ensures .1)))
 
-answer-requires : tie.Need-answer-requires
-answer-requires c κs = search needs
+line-of-requires : tie.Need-line-of-requires
+line-of-requires c κs = search needs
 
 array-share-prefix-out : tie.Need-array-share-prefix-out
 array-share-prefix-out c = within c
 
 slice-aggregate-write-all : tie.Need-slice-aggregate-write-all
-slice-aggregate-write-all c = sym (length-take-le _ (c .before .answer .last .1 .0) (within (c .before)))
+slice-aggregate-write-all c = sym (length-take-le _ (c .before .line-of .last .1 .0) (within (c .before)))
 
 write-all-requires : tie.Need-write-all-requires
 write-all-requires c κs = search needs
@@ -39,7 +39,7 @@ pub print-spec : {M : Type 1} → statement M
 print-spec =
     tie.close
     (tie.spec
-    answer-requires
+    line-of-requires
     array-share-prefix-out
     slice-aggregate-write-all
     write-all-requires

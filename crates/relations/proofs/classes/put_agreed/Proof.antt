@@ -3,14 +3,15 @@ use native.Mathlib.Omega.{arith}
 use borrow.Author.Needs.{needs}
 use lib.ListN.{getD}
 use Rattle.words.specs.Sets.{gathered}
-use Rattle.words.proofs.Arrays.{Filled, filled-start, filled-more}
+use Rattle.words.specs.Arrays.{Filled, sets-of}
+use Rattle.words.proofs.Arrays.{filled-start, filled-more}
 use Rattle.part.specs.Record.{class}
 use Rattle.relations.proofs.ClassRows.{agreed}
 use Rattle.relations.proofs.classes.put_agreed.Statement.{statement}
 use Rattle.relations.proofs.classes.put_agreed.Tie as tie
 
 abbrev Inv-loop : tie.InvT-loop
-Inv-loop b offers n members common words₀ s₀ words s = (s ≤ n) × Filled (λ u. gathered 64 (getD common (class b u) 0) members) s words
+Inv-loop b offers n members common words₀ s₀ words s = (s ≤ n) × Filled (sets-of (λ u. gathered 64 (getD common (class b u) 0) members)) s words₀ words
 
 abbrev μ-loop : tie.MeasureT-loop
 μ-loop b offers n members common words₀ s₀ words s = n - s
@@ -18,8 +19,8 @@ abbrev μ-loop : tie.MeasureT-loop
 states-requires : tie.Need-states-requires Inv-loop μ-loop
 states-requires c κs = search needs
 
-put-members-requires : tie.Need-put-members-requires Inv-loop μ-loop
-put-members-requires c κs = search needs
+members-requires : tie.Need-members-requires Inv-loop μ-loop
+members-requires c κs = search needs
 
 put-common-requires : tie.Need-put-common-requires Inv-loop μ-loop
 put-common-requires c κs = search needs
@@ -34,7 +35,7 @@ mul-gather : tie.Need-mul-gather Inv-loop μ-loop
 mul-gather c = omega arith
 
 array-read-gather : tie.Need-array-read-gather Inv-loop μ-loop
-array-read-gather c = omega (arith, c .before .before .before .before .before .before .before .before .before .before .pre .1 (c .before .before .loop .s) (omega arith))
+array-read-gather c = omega (arith, c .before .before .before .before .before .before .before .before .before .pre .1 (c .before .before .loop .s) (omega arith))
 
 gather-requires : tie.Need-gather-requires Inv-loop μ-loop
 gather-requires c κs = tt
@@ -59,10 +60,10 @@ loop-again c = (
 
 returns : tie.Need-returns Inv-loop μ-loop
 returns c =
-    let members = c .before .before .before .before .before .put-members in
+    let members = c .before .before .before .before .before .members in
     let common = c .before .before .before .put-common in
-    let start = c .before .before .before .before .before .before .before .before .before in
-    agreed _ _ (members .last .0) (common .last .0) (c .before .loop .words) (start .pre .1) (members .ensures) (common .ensures) (λ s h. c .before .loop .inv .1 .rows s (omega arith))
+    let start = c .before .before .before .before .before .before .before .before in
+    agreed _ _ (members .result) (common .last .0) (c .before .loop .words) (start .pre .1) (members .ensures) (common .ensures) (λ s h. c .before .loop .inv .1 .words s (omega arith))
 
 pub put-agreed-spec : {M : Type 1} → statement M
 put-agreed-spec =
@@ -71,7 +72,7 @@ put-agreed-spec =
     Inv-loop
     μ-loop
     states-requires
-    put-members-requires
+    members-requires
     put-common-requires
     loop-holds
     class-requires

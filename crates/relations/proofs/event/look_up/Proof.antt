@@ -1,13 +1,14 @@
 use Prim.Native.Nat.{_≤_, _-_}
 use native.Mathlib.Omega.{arith}
 use Rattle.words.specs.Sets.{gathered}
-use Rattle.words.proofs.Arrays.{Filled, filled-start, filled-more}
+use Rattle.words.specs.Arrays.{Filled, sets-of}
+use Rattle.words.proofs.Arrays.{filled-start, filled-more, filled-end}
 use Rattle.part.specs.Record.{row}
 use Rattle.relations.proofs.event.look_up.Statement.{statement}
 use Rattle.relations.proofs.event.look_up.Tie as tie
 
 abbrev Inv-loop : tie.InvT-loop
-Inv-loop b i table n at words₀ s₀ words s = (s ≤ n) × Filled (λ u. gathered 64 (row b i u) table) s words
+Inv-loop b i table n at words₀ s₀ words s = (s ≤ n) × Filled (sets-of (λ u. gathered 64 (row b i u) table)) s words₀ words
 
 abbrev μ-loop : tie.MeasureT-loop
 μ-loop b i table n at words₀ s₀ words s = n - s
@@ -43,7 +44,7 @@ loop-again : tie.Need-loop-again Inv-loop μ-loop
 loop-again c = (omega arith, filled-more (c .gather .result) (omega arith) (c .before .before .before .loop .inv .1) (rw (c .before .row-from .ensures) at (c .gather .ensures)))
 
 returns : tie.Need-returns Inv-loop μ-loop
-returns c = λ s h. c .before .loop .inv .1 .rows s (omega arith)
+returns c = filled-end (omega arith) (c .before .loop .inv .1)
 
 pub look-up-spec : {M : Type 1} → statement M
 look-up-spec =

@@ -1,4 +1,4 @@
-use mathlib.Core.Path.{refl, sym}
+use mathlib.Core.Path.{sym}
 use native.Mathlib.Omega.{arith}
 use Rattle.restrictive.specs.Answers.{shows}
 use Rattle.restrictive.specs.Verdict.{rule-violation, first-violation}
@@ -12,14 +12,14 @@ element-copy-out-rule-2 : tie.Need-element-copy-out-rule-2
 element-copy-out-rule-2 c = search needs
 
 rule-2-requires : tie.Need-rule-2-requires
-rule-2-requires c κs = (c .before .before .before .before .pre .0, (c .before .before .before .before .pre .1 .0 .1, (c .before .before .before .before .pre .1 .1 .0 1 (omega arith), refl)))
+rule-2-requires c κs = let pre = c .before .before .pre in (pre .0, (pre .1 .0 .1, pre .1 .1 .0 1 (omega arith)))
 
 enum-told : tie.Need-enum-told
 enum-told c = search needs
 
 returns : tie.Need-returns
 unfolding first-violation
-returns c = found-first (rule-violation _) 1 _ (c .before .before .rule-2 .ensures) (c .before .before .before .before .before .before .before .pre .1 .1 .1) 5 _ (c .enum-told .given .1) (omega arith)
+returns c = let pre = c .before .before .before .before .before .pre in found-first (rule-violation _) 1 _ (c .before .before .rule-2 .ensures) (pre .1 .1 .1) 5 _ (c .enum-told .given .1) (omega arith)
 
 enum-told-2 : tie.Need-enum-told-2
 enum-told-2 c = search needs
@@ -29,10 +29,14 @@ distinct-requires c κs = search needs
 
 returns-2 : tie.Need-returns-2
 unfolding shows
-returns-2 c = sym (alone-rules _ (nothing-more (rule-violation _) 1 _ (c .before .before .before .before .rule-2 .ensures) (c .before .before .before .before .before .before .before .before .before .pre .1 .1 .1) (c .before .before .enum-told2 .given .1)) (c .before .distinct .ensures .0 (c .if1 .taken)))
+returns-2 c =
+    let pre = c .before .before .before .before .before .before .before .pre in
+    sym (alone-rules _ (nothing-more (rule-violation _) 1 _ (c .before .before .before .before .rule-2 .ensures) (pre .1 .1 .1) (c .before .before .enum-told2 .given .1)) (c .before .distinct .ensures .0 (c .if1 .taken)))
 
 rules-from-3-requires : tie.Need-rules-from-3-requires
-rules-from-3-requires c κs = (c .before .before .before .before .before .before .before .before .before .before .before .pre .0, (c .before .before .before .before .before .before .before .before .before .before .before .pre .1 .0, (c .before .before .before .before .before .before .before .before .before .before .before .pre .1 .1 .0, nothing-more (rule-violation _) 1 _ (c .before .before .before .before .before .before .rule-2 .ensures) (c .before .before .before .before .before .before .before .before .before .before .before .pre .1 .1 .1) (c .before .before .before .before .enum-told2 .given .1))))
+rules-from-3-requires c κs =
+    let pre = c .before .before .before .before .before .before .before .pre in
+    (pre .0, (pre .1 .0, (pre .1 .1 .0, nothing-more (rule-violation _) 1 _ (c .before .before .before .before .rule-2 .ensures) (pre .1 .1 .1) (c .before .before .enum-told2 .given .1))))
 
 returns-3 : tie.Need-returns-3
 returns-3 c = search needs

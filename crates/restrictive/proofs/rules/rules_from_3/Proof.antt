@@ -9,21 +9,24 @@ use borrow.Author.Needs.{needs}
 use Rattle.restrictive.proofs.rules.rules_from_3.Statement.{statement}
 use Rattle.restrictive.proofs.rules.rules_from_3.Tie as tie
 
-put-own-requires : tie.Need-put-own-requires
-put-own-requires c κs = search needs
+own-requires : tie.Need-own-requires
+own-requires c κs = search needs
 
 element-copy-out-by-event : tie.Need-element-copy-out-by-event
 element-copy-out-by-event c = search needs
 
 by-event-requires : tie.Need-by-event-requires
-by-event-requires c κs = (c .before .before .before .before .before .before .before .before .pre .0, (c .before .before .before .before .before .before .before .before .pre .1 .0 .1, ((omega arith, omega arith), (c .before .before .before .before .before .before .before .before .pre .1 .1 .0 2 (omega arith), (λ e. direct-led _ (c .before .before .before .before .before .before .before .before .pre .0) (c .before .before .before .before .before .before .before .before .pre .1 .0 .0) (c .before .before .before .before .before .put-own .last .0) (c .before .before .before .before .before .put-own .ensures), λ e. absurd (true-not-false e refl))))))
+by-event-requires c κs =
+    let pre = c .before .before .before .before .before .before .before .pre in
+    let own = c .before .before .before .before .before .own in
+    (pre .0, (pre .1 .0 .1, ((omega arith, omega arith), (pre .1 .1 .0 2 (omega arith), (λ e. direct-led _ (pre .0) (pre .1 .0 .0) (own .result) (own .ensures), λ e. absurd (true-not-false e refl))))))
 
 enum-told : tie.Need-enum-told
 enum-told c = search needs
 
 returns : tie.Need-returns
 unfolding first-violation
-returns c = found-first (rule-violation _) 2 _ (c .before .before .by-event .ensures) (c .before .before .before .before .before .before .before .before .before .before .before .pre .1 .1 .1) 5 _ (c .enum-told .given .1) (omega arith)
+returns c = let pre = c .before .before .before .before .before .before .before .before .before .before .pre in found-first (rule-violation _) 2 _ (c .before .before .by-event .ensures) (pre .1 .1 .1) 5 _ (c .enum-told .given .1) (omega arith)
 
 enum-told-2 : tie.Need-enum-told-2
 enum-told-2 c = search needs
@@ -35,14 +38,23 @@ element-copy-out-by-event-2 : tie.Need-element-copy-out-by-event-2
 element-copy-out-by-event-2 c = search needs
 
 by-event-requires-2 : tie.Need-by-event-requires-2
-by-event-requires-2 c κs = (c .before .before .before .before .before .before .before .before .before .before .before .before .before .before .before .before .before .before .pre .0, (c .before .before .before .before .before .before .before .before .before .before .before .before .before .before .before .before .before .before .pre .1 .0 .1, ((omega arith, omega arith), (c .before .before .before .before .before .before .before .before .before .before .before .before .before .before .before .before .before .before .pre .1 .1 .0 4 (omega arith), (λ e. direct-alone _ (c .before .before .before .before .before .before .before .before .before .before .before .before .before .before .before .before .before .before .pre .0) (c .before .before .before .before .before .before .before .before .before .before .before .before .before .before .before .before .before .before .pre .1 .0 .0) _ (c .before .before .before .before .before .before .before .before .before .before .before .before .before .before .before .before .before .before .pre .1 .1 .0 3 (omega arith)) (c .before .before .before .before .before .if1 .taken) (c .before .before .before .before .before .before .before .before .before .before .before .before .before .before .before .put-own .last .0) (c .before .before .before .before .before .before .before .before .before .before .before .before .before .before .before .put-own .ensures), λ e. absurd (true-not-false e refl))))))
+by-event-requires-2 c κs =
+    let pre = c .before .before .before .before .before .before .before .before .before .before .before .before .before .before .before .before .before .pre in
+    let own = c .before .before .before .before .before .before .before .before .before .before .before .before .before .before .before .own in
+    (pre .0, (pre .1 .0 .1, ((omega arith, omega arith), (pre .1 .1 .0 4 (omega arith), (λ e. direct-alone _ (pre .0) (pre .1 .0 .0) _ (pre .1 .1 .0 3 (omega arith)) (c .before .before .before .before .before .if1 .taken) (own .result) (own .ensures), λ e. absurd (true-not-false e refl))))))
 
 returns-2 : tie.Need-returns-2
 unfolding first-violation
-returns-2 c = found-last (rule-violation _) 4 _ (c .by-event2 .ensures) (first-more (rule-violation _) 3 (nothing-more (rule-violation _) 2 _ (c .before .before .before .before .before .before .before .before .before .before .by-event .ensures) (c .before .before .before .before .before .before .before .before .before .before .before .before .before .before .before .before .before .before .before .pre .1 .1 .1) (c .before .before .before .before .before .before .before .before .enum-told2 .given .1)) (unspoken _ 3 _ (omega arith) (c .before .before .before .before .before .before .before .before .before .before .before .before .before .before .before .before .before .before .before .pre .1 .1 .0 3 (omega arith)) (c .before .before .before .before .before .before .if1 .taken)))
+returns-2 c =
+    let pre = c .before .before .before .before .before .before .before .before .before .before .before .before .before .before .before .before .before .before .pre in
+    let none-3 = nothing-more (rule-violation _) 2 _ (c .before .before .before .before .before .before .before .before .before .before .by-event .ensures) (pre .1 .1 .1) (c .before .before .before .before .before .before .before .before .enum-told2 .given .1) in
+    found-last (rule-violation _) 4 _ (c .by-event2 .ensures) (first-more (rule-violation _) 3 none-3 (unspoken _ 3 _ (omega arith) (pre .1 .1 .0 3 (omega arith)) (c .before .before .before .before .before .before .if1 .taken)))
 
 with-silent-requires : tie.Need-with-silent-requires
-with-silent-requires c κs = (c .before .before .before .before .before .before .before .before .before .before .before .before .before .before .before .before .pre .0, (c .before .before .before .before .before .before .before .before .before .before .before .before .before .before .before .before .pre .1 .0, (c .before .before .before .before .before .before .before .before .before .before .before .before .before .before .before .before .pre .1 .1 .0, (c .before .before .before .before .before .before .before .before .before .before .before .before .before .put-own .ensures, nothing-more (rule-violation _) 2 _ (c .before .before .before .before .before .before .before .by-event .ensures) (c .before .before .before .before .before .before .before .before .before .before .before .before .before .before .before .before .pre .1 .1 .1) (c .before .before .before .before .before .enum-told2 .given .1)))))
+with-silent-requires c κs =
+    let pre = c .before .before .before .before .before .before .before .before .before .before .before .before .before .before .before .pre in
+    let none-3 = nothing-more (rule-violation _) 2 _ (c .before .before .before .before .before .before .before .by-event .ensures) (pre .1 .1 .1) (c .before .before .before .before .before .enum-told2 .given .1) in
+    (pre .0, (pre .1 .0, (pre .1 .1 .0, (c .before .before .before .before .before .before .before .before .before .before .before .before .before .own .ensures, none-3))))
 
 returns-3 : tie.Need-returns-3
 returns-3 c = search needs
@@ -51,7 +63,7 @@ pub rules-from-3-spec : {M : Type 1} → statement M
 rules-from-3-spec =
     tie.close
     (tie.spec
-    put-own-requires
+    own-requires
     element-copy-out-by-event
     by-event-requires
     enum-told

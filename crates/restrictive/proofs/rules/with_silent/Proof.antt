@@ -25,7 +25,7 @@ element-copy-out-rule-4 : tie.Need-element-copy-out-rule-4
 element-copy-out-rule-4 c = search needs
 
 rule-4-requires : tie.Need-rule-4-requires
-rule-4-requires c κs = (c .before .before .before .before .before .before .before .before .before .pre .0, (c .before .before .before .before .before .before .before .before .before .pre .1 .0 .1, (c .before .before .before .before .before .before .before .before .before .pre .1 .1 .0 3 (omega arith), reached-classes _ (c .before .before .before .before .before .before .before .before .before .pre .0) (c .before .before .before .before .before .before .before .before .before .pre .1 .0 .0) (c .before .before .before .before .before .before .closure .result) (now (c .before .before .before .before .before .before .before .before .before .args .own)) (c .before .before .before .gather-each .result) (c .before .before .before .before .before .before .closure .ensures) (c .before .before .before .before .before .before .before .before .before .pre .1 .1 .1 .0) (λ u l. let n = c .before .before .before .before .before .states .ensures .0 in c .before .before .before .gather-each .ensures u (omega arith)))))
+rule-4-requires c κs = (c .before .before .before .before .before .before .before .before .before .pre .0, (c .before .before .before .before .before .before .before .before .before .pre .1 .0 .1, (c .before .before .before .before .before .before .before .before .before .pre .1 .1 .0 3 (omega arith), reached-classes _ (c .before .before .before .before .before .before .before .before .before .pre .0) (c .before .before .before .before .before .before .before .before .before .pre .1 .0 .0) (c .before .before .before .before .before .before .closure .result) (now (c .before .before .before .before .before .before .before .before .before .args .own)) (c .before .before .before .gather-each .result) (c .before .before .before .before .before .before .closure .ensures) (c .before .before .before .before .before .before .before .before .before .pre .1 .1 .1 .0) (λ u l. let n = c .before .before .before .before .before .states .ensures .0 in c .before .before .before .gather-each .ensures .words u (omega arith)))))
 
 enum-told : tie.Need-enum-told
 enum-told c = search needs
@@ -41,7 +41,7 @@ element-copy-out-by-event : tie.Need-element-copy-out-by-event
 element-copy-out-by-event c = search needs
 
 by-event-requires : tie.Need-by-event-requires
-by-event-requires c κs = (c .before .before .before .before .before .before .before .before .before .before .before .before .before .before .before .before .before .pre .0, (c .before .before .before .before .before .before .before .before .before .before .before .before .before .before .before .before .before .pre .1 .0 .1, ((omega arith, omega arith), (c .before .before .before .before .before .before .before .before .before .before .before .before .before .before .before .before .before .pre .1 .1 .0 4 (omega arith), (λ e. absurd (true-not-false refl e), λ e. around-offers _ (c .before .before .before .before .before .before .before .before .before .before .before .before .before .before .before .before .before .pre .0) (c .before .before .before .before .before .before .before .before .before .before .before .before .before .before .before .before .before .pre .1 .0 .0) (c .before .before .before .before .before .before .before .before .before .before .before .before .before .before .closure .result) (c .before .before .before .before .before .before .before .before .before .before .before .gather-each .result) (c .before .before .before .before .before .before .before .before .before .before .before .before .before .before .closure .ensures) (reached-classes _ (c .before .before .before .before .before .before .before .before .before .before .before .before .before .before .before .before .before .pre .0) (c .before .before .before .before .before .before .before .before .before .before .before .before .before .before .before .before .before .pre .1 .0 .0) (c .before .before .before .before .before .before .before .before .before .before .before .before .before .before .closure .result) (now (c .before .before .before .before .before .before .before .before .before .before .before .before .before .before .before .before .before .args .own)) (c .before .before .before .before .before .before .before .before .before .before .before .gather-each .result) (c .before .before .before .before .before .before .before .before .before .before .before .before .before .before .closure .ensures) (c .before .before .before .before .before .before .before .before .before .before .before .before .before .before .before .before .before .pre .1 .1 .1 .0) (λ u l. let n = c .before .before .before .before .before .before .before .before .before .before .before .before .before .states .ensures .0 in c .before .before .before .before .before .before .before .before .before .before .before .gather-each .ensures u (omega arith))))))))
+by-event-requires c κs = (c .before .before .before .before .before .before .before .before .before .before .before .before .before .before .before .before .before .pre .0, (c .before .before .before .before .before .before .before .before .before .before .before .before .before .before .before .before .before .pre .1 .0 .1, ((omega arith, omega arith), (c .before .before .before .before .before .before .before .before .before .before .before .before .before .before .before .before .before .pre .1 .1 .0 4 (omega arith), (λ e. absurd (true-not-false refl e), λ e. around-offers _ (c .before .before .before .before .before .before .before .before .before .before .before .before .before .before .before .before .before .pre .0) (c .before .before .before .before .before .before .before .before .before .before .before .before .before .before .before .before .before .pre .1 .0 .0) (c .before .before .before .before .before .before .before .before .before .before .before .before .before .before .closure .result) (c .before .before .before .before .before .before .before .before .before .before .before .gather-each .result) (c .before .before .before .before .before .before .before .before .before .before .before .before .before .before .closure .ensures) (reached-classes _ (c .before .before .before .before .before .before .before .before .before .before .before .before .before .before .before .before .before .pre .0) (c .before .before .before .before .before .before .before .before .before .before .before .before .before .before .before .before .before .pre .1 .0 .0) (c .before .before .before .before .before .before .before .before .before .before .before .before .before .before .closure .result) (now (c .before .before .before .before .before .before .before .before .before .before .before .before .before .before .before .before .before .args .own)) (c .before .before .before .before .before .before .before .before .before .before .before .gather-each .result) (c .before .before .before .before .before .before .before .before .before .before .before .before .before .before .closure .ensures) (c .before .before .before .before .before .before .before .before .before .before .before .before .before .before .before .before .before .pre .1 .1 .1 .0) (λ u l. let n = c .before .before .before .before .before .before .before .before .before .before .before .before .before .states .ensures .0 in c .before .before .before .before .before .before .before .before .before .before .before .gather-each .ensures .words u (omega arith))))))))
 
 returns-2 : tie.Need-returns-2
 unfolding first-violation

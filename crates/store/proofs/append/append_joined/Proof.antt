@@ -73,7 +73,7 @@ write-requires c κs =
     let s = c .before .before .before .before .before .before .before .before .before .before .before .before .before .before .args .s .now in
     let list = c .before .before .before .before .before .before .before .before .before .before .merge .ensures in (
       joins (c .before .before .before .before .before .before .before),
-      (record { size = list .0; front = list .1 }, omega (arith, mid-len (c .before .before .before .before .before .offset .result) (length s) s (omega arith))),
+      (record { size = list .0; front = list .1 .0 }, omega (arith, mid-len (c .before .before .before .before .before .offset .result) (length s) s (omega arith))),
     )
 
 add-put-end : tie.Need-add-put-end

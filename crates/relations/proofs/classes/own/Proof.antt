@@ -2,23 +2,28 @@ use Prim.Native.Nat.{_≤_, _-_}
 use native.Mathlib.Omega.{arith}
 use borrow.Author.Needs.{needs}
 use lib.Dec.{eqb}
+use lib.ListN.{replicate}
 use Rattle.words.proofs.Sets.{bit-single}
-use Rattle.words.proofs.Arrays.{Filled, filled-start, filled-more}
+use Rattle.words.specs.Arrays.{Filled, sets-of}
+use Rattle.words.proofs.Arrays.{filled-none, filled-more, filled-end}
 use Rattle.part.specs.Record.{class}
-use Rattle.relations.proofs.classes.put_own.Statement.{statement}
-use Rattle.relations.proofs.classes.put_own.Tie as tie
+use Rattle.relations.proofs.classes.own.Statement.{statement}
+use Rattle.relations.proofs.classes.own.Tie as tie
 
 abbrev Inv-loop : tie.InvT-loop
-Inv-loop b n words₀ s₀ words s = (s ≤ n) × Filled (λ u. eqb (class b u)) s words
+Inv-loop b n sets₀ s₀ sets s = (s ≤ n) × Filled (sets-of (λ u. eqb (class b u))) s (replicate 64 0) sets
 
 abbrev μ-loop : tie.MeasureT-loop
-μ-loop b n words₀ s₀ words s = n - s
+μ-loop b n sets₀ s₀ sets s = n - s
 
 states-requires : tie.Need-states-requires Inv-loop μ-loop
 states-requires c κs = search needs
 
+empties-requires : tie.Need-empties-requires Inv-loop μ-loop
+empties-requires c κs = search needs
+
 loop-holds : tie.Need-loop-holds Inv-loop μ-loop
-loop-holds c = (omega arith, filled-start (c .words .given .0 .1))
+loop-holds c = (omega arith, filled-none (c .empties .ensures))
 
 class-requires : tie.Need-class-requires Inv-loop μ-loop
 class-requires c κs = search needs
@@ -26,11 +31,11 @@ class-requires c κs = search needs
 single-requires : tie.Need-single-requires Inv-loop μ-loop
 single-requires c κs = omega (arith, c .before .before .before .before .before .before .pre .1 (c .before .before .loop .s) (omega arith))
 
-mul-words : tie.Need-mul-words Inv-loop μ-loop
-mul-words c = omega arith
+mul-sets : tie.Need-mul-sets Inv-loop μ-loop
+mul-sets c = omega arith
 
-slice-write-words : tie.Need-slice-write-words Inv-loop μ-loop
-slice-write-words c = omega arith
+array-write-sets : tie.Need-array-write-sets Inv-loop μ-loop
+array-write-sets c = omega arith
 
 add-s : tie.Need-add-s Inv-loop μ-loop
 add-s c = omega arith
@@ -45,20 +50,21 @@ loop-again c = (
 )
 
 returns : tie.Need-returns Inv-loop μ-loop
-returns c = λ s h. c .before .loop .inv .1 .rows s (omega arith)
+returns c = filled-end (omega arith) (c .before .loop .inv .1)
 
-pub put-own-spec : {M : Type 1} → statement M
-put-own-spec =
+pub own-spec : {M : Type 1} → statement M
+own-spec =
     tie.close
     (tie.spec
     Inv-loop
     μ-loop
     states-requires
+    empties-requires
     loop-holds
     class-requires
     single-requires
-    mul-words
-    slice-write-words
+    mul-sets
+    array-write-sets
     add-s
     loop-less
     loop-again

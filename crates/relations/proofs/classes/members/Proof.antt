@@ -5,8 +5,8 @@ use borrow.Author.Needs.{needs}
 use Rattle.words.specs.Sets.{union}
 use Rattle.part.specs.Record.{states, class}
 use Rattle.relations.proofs.Sorted.{Sorted, sorted-none, sorted-more}
-use Rattle.relations.proofs.classes.put_members.Statement.{statement}
-use Rattle.relations.proofs.classes.put_members.Tie as tie
+use Rattle.relations.proofs.classes.members.Statement.{statement}
+use Rattle.relations.proofs.classes.members.Tie as tie
 
 abbrev Inv-loop : tie.InvT-loop
 Inv-loop b n sets₀ s₀ sets s = (s ≤ n) × Sorted 64 (class b) s sets
@@ -17,21 +17,24 @@ abbrev μ-loop : tie.MeasureT-loop
 states-requires : tie.Need-states-requires Inv-loop μ-loop
 states-requires c κs = search needs
 
+empties-requires : tie.Need-empties-requires Inv-loop μ-loop
+empties-requires c κs = search needs
+
 loop-holds : tie.Need-loop-holds Inv-loop μ-loop
-loop-holds c = (omega arith, sorted-none _ _ _ (c .before .before .before .pre .1 .1))
+loop-holds c = (omega arith, sorted-none _ _ _ (c .empties .ensures))
 
 class-requires : tie.Need-class-requires Inv-loop μ-loop
 class-requires c κs = search needs
 
 -- The class of a state is below 64.
 small : (c : tie.After-class Inv-loop μ-loop) → c .class .result < 64
-small c = omega (arith, c .before .before .before .before .before .before .pre .1 .0 (c .before .before .loop .s) (omega arith))
+small c = omega (arith, c .before .before .before .before .before .before .pre .1 (c .before .before .loop .s) (omega arith))
 
 mul-union : tie.Need-mul-union Inv-loop μ-loop
 mul-union c = omega arith
 
-slice-read-union : tie.Need-slice-read-union Inv-loop μ-loop
-slice-read-union c = omega (arith, small (c .before))
+array-read-union : tie.Need-array-read-union Inv-loop μ-loop
+array-read-union c = omega (arith, small c)
 
 single-requires : tie.Need-single-requires Inv-loop μ-loop
 single-requires c κs = omega arith
@@ -42,8 +45,8 @@ union-requires c κs = search needs
 mul-sets : tie.Need-mul-sets Inv-loop μ-loop
 mul-sets c = omega arith
 
-slice-write-sets : tie.Need-slice-write-sets Inv-loop μ-loop
-slice-write-sets c = omega (arith, small (c .before .before .before))
+array-write-sets : tie.Need-array-write-sets Inv-loop μ-loop
+array-write-sets c = omega (arith, small (c .before .before))
 
 add-s : tie.Need-add-s Inv-loop μ-loop
 add-s c = omega arith
@@ -53,7 +56,7 @@ loop-less c = omega arith
 
 loop-again : tie.Need-loop-again Inv-loop μ-loop
 loop-again c =
-    let read = c .before .before .before in (
+    let read = c .before .before in (
       omega arith,
       sorted-more _ (class (read .before .before .before .before .before .before .args .b .now)) _ _ (c .union .result) _ (read .class .ensures .0) (small read) (c .union .ensures ∙ ap (union _) (c .before .single .ensures)) (read .before .before .loop .inv .1),
     )
@@ -61,21 +64,22 @@ loop-again c =
 returns : tie.Need-returns Inv-loop μ-loop
 returns c = let e : c .before .loop .s ≡ states (c .before .before .before .before .before .args .b .now) = omega arith in rw e at (c .before .loop .inv .1 .holds)
 
-pub put-members-spec : {M : Type 1} → statement M
-put-members-spec =
+pub members-spec : {M : Type 1} → statement M
+members-spec =
     tie.close
     (tie.spec
     Inv-loop
     μ-loop
     states-requires
+    empties-requires
     loop-holds
     class-requires
     mul-union
-    slice-read-union
+    array-read-union
     single-requires
     union-requires
     mul-sets
-    slice-write-sets
+    array-write-sets
     add-s
     loop-less
     loop-again
