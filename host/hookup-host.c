@@ -11,41 +11,42 @@
 
 enum { DONE = 0, REFUSED = 1, TROUBLE = 2 }; /* the exit statuses */
 enum { FILE_LIMIT = 1048576 };               /* a longer file is not taken */
-enum { RECORD_LIMIT = 16586 };               /* no record that passes is longer, so every joined record fits */
-enum { SECOND = 1000 };                      /* Join adds this where the second record itself is refused or breaks a rule */
 
-/* What an answer other than 0 means. An own answer is about one record by itself; Join adds SECOND to it for its second record. */
+/* What an answer means. An own answer is about one record by itself; Join adds HOOKUP_SECOND to it for its second record. */
 struct meaning {
     uint32_t number;
     bool own;
     const char *words;
 };
 
+static const struct meaning passes = {HOOKUP_PASS, false, "passes"};
+static const struct meaning joined = {HOOKUP_JOINED, false, "joined"};
+
 static const struct meaning meanings[] = {
-    {1, true, "fewer than six bytes"},
-    {2, true, "the length is not the number of bytes after the first six"},
-    {3, true, "the kind is not 1"},
-    {4, true, "the body is under four bytes, or the state count, start state or event count is out of range"},
-    {5, true, "the length is not the one for so many states and events"},
-    {6, true, "the classes are not numbered by first appearance"},
-    {7, true, "the identifiers do not rise, or an event kind is above 2"},
-    {8, true, "a row has a bit for a state that is not there"},
-    {9, false, "the observers differ"},
-    {10, false, "a shared event clashes in kind or level"},
-    {11, false, "more than 64 states or more than 32 events together"},
-    {15, false, "the output buffer is too short"},
-    {101, true, "rule 1 is broken: an input has no step from some state"},
-    {102, true, "rule 2 is broken: a high input leaves its state's class"},
-    {103, true, "rule 3 is broken: a low input leads from one state to a class where it does not lead from another of the same class"},
-    {104, true, "rule 4 is broken: a high output or internal event leads to a class that another state of the same class cannot reach by quiet steps"},
-    {105, true, "rule 5 is broken: a low output or internal event leads to a class that another state of the same class cannot reach by it and quiet steps"},
+    {HOOKUP_TOO_SHORT, true, "fewer than six bytes"},
+    {HOOKUP_WRONG_LENGTH, true, "the length is not the number of bytes after the first six"},
+    {HOOKUP_WRONG_KIND, true, "the kind is not 1"},
+    {HOOKUP_OUT_OF_RANGE, true, "the body is under four bytes, or the state count, start state or event count is out of range"},
+    {HOOKUP_WRONG_SIZE, true, "the length is not the one for so many states and events"},
+    {HOOKUP_MISNUMBERED, true, "the classes are not numbered by first appearance"},
+    {HOOKUP_MISORDERED, true, "the identifiers do not rise, or an event kind is above 2"},
+    {HOOKUP_STRAY_BIT, true, "a row has a bit for a state that is not there"},
+    {HOOKUP_OBSERVERS_DIFFER, false, "the observers differ"},
+    {HOOKUP_CLASH, false, "a shared event clashes in kind or level"},
+    {HOOKUP_TOO_LARGE, false, "more than 64 states or more than 32 events together"},
+    {HOOKUP_NO_ROOM, false, "the output buffer is too short"},
+    {HOOKUP_BREAK + 1, true, "rule 1 is broken: an input has no step from some state"},
+    {HOOKUP_BREAK + 2, true, "rule 2 is broken: a high input leaves its state's class"},
+    {HOOKUP_BREAK + 3, true, "rule 3 is broken: a low input leads from one state to a class where it does not lead from another of the same class"},
+    {HOOKUP_BREAK + 4, true, "rule 4 is broken: a high output or internal event leads to a class that another state of the same class cannot reach by quiet steps"},
+    {HOOKUP_BREAK + 5, true, "rule 5 is broken: a low output or internal event leads to a class that another state of the same class cannot reach by it and quiet steps"},
 };
 
 static const struct meaning *find_meaning(uint32_t answer)
 {
     for (size_t i = 0; i < sizeof meanings / sizeof meanings[0]; i++) {
         const struct meaning *m = &meanings[i];
-        if (answer == m->number || (m->own && answer == SECOND + m->number))
+        if (answer == m->number || (m->own && answer == HOOKUP_SECOND + m->number))
             return m;
     }
     return NULL;
@@ -57,16 +58,7 @@ static const char *side(uint32_t answer)
     const struct meaning *m = find_meaning(answer);
     if (m == NULL || !m->own)
         return "";
-    return answer > SECOND ? " (second record)" : " (first record)";
-}
-
-/* The words for an answer; done are those for 0. */
-static const char *words(uint32_t answer, const char *done)
-{
-    if (answer == 0)
-        return done;
-    const struct meaning *m = find_meaning(answer);
-    return m == NULL ? "not an answer that hookup.h names" : m->words;
+    return answer > HOOKUP_SECOND ? " (second record)" : " (first record)";
 }
 
 static void complain(const char *about, const char *why)
@@ -74,14 +66,16 @@ static void complain(const char *about, const char *why)
     fprintf(stderr, "hookup-host: %s: %s\n", about, why);
 }
 
-/* Prints the answer's line and gives the exit status. */
-static int print_answer(uint32_t answer, const char *meaning, const char *which)
+/* Prints the answer's line and gives the exit status. done is the answer of a call that did what was asked. */
+static int print_answer(uint32_t answer, const struct meaning *done, const char *which)
 {
-    if (printf("%" PRIu32 ": %s%s\n", answer, meaning, which) < 0 || fflush(stdout) != 0) {
+    const struct meaning *m = answer == done->number ? done : find_meaning(answer);
+    const char *words = m == NULL ? "not an answer that hookup.h names" : m->words;
+    if (printf("%" PRIu32 ": %s%s\n", answer, words, which) < 0 || fflush(stdout) != 0) {
         complain("standard output", strerror(errno));
         return TROUBLE;
     }
-    return answer == 0 ? DONE : REFUSED;
+    return m == done ? DONE : REFUSED;
 }
 
 /* Bytes in memory that the holder frees. */
@@ -178,10 +172,10 @@ static bool replace_file(const char *path, const uint8_t *at, size_t len)
     return done;
 }
 
-/* A record's first four bytes are the length of its body, lowest first; six bytes come before the body. */
+/* A record's first four bytes are the length of its body, lowest first. */
 static size_t record_length(const uint8_t *record)
 {
-    return 6 + ((size_t)record[0] | (size_t)record[1] << 8 | (size_t)record[2] << 16 | (size_t)record[3] << 24);
+    return HOOKUP_HEADER + ((size_t)record[0] | (size_t)record[1] << 8 | (size_t)record[2] << 16 | (size_t)record[3] << 24);
 }
 
 static int check_file(const char *path)
@@ -190,20 +184,20 @@ static int check_file(const char *path)
     int status = TROUBLE;
     if (read_file(path, &record)) {
         uint32_t answer = hookup_check(record.at, record.len);
-        status = print_answer(answer, words(answer, "passes"), "");
+        status = print_answer(answer, &passes, "");
     }
     free(record.at);
     return status;
 }
 
-/* Joins two records and writes the joined one; out is touched only where the answer is 0. */
+/* Joins two records and writes the joined one; out is touched only where that succeeds. */
 static int join_records(struct bytes a, struct bytes b, const char *out)
 {
-    uint8_t joined[RECORD_LIMIT];
-    uint32_t answer = hookup_join(a.at, a.len, b.at, b.len, joined, sizeof joined);
-    if (answer == 0 && !(may_replace(out) && replace_file(out, joined, record_length(joined))))
+    uint8_t record[HOOKUP_MAX_RECORD];
+    uint32_t answer = hookup_join(a.at, a.len, b.at, b.len, record, sizeof record);
+    if (answer == HOOKUP_JOINED && !(may_replace(out) && replace_file(out, record, record_length(record))))
         return TROUBLE;
-    return print_answer(answer, words(answer, "joined"), side(answer));
+    return print_answer(answer, &joined, side(answer));
 }
 
 static int join_files(const char *first, const char *second, const char *out)

@@ -149,16 +149,15 @@ part-empty-exactly s i = (empty-none (walk s) refl, none-empty)
         elim (decLt i (length rs)) [
           | no l ↦ no-record q (omega arith)
           | yes l ↦
-            let same : records s ≡ rs = rw (q, records) in
-            let headed = each-at (λ r. 6 ≤ length r) rs (walk-headed s rs q) i l in
-            let gone : length (getD rs i []) ≡ 0 = ap (λ (qs : List (List ℕ)). length (getD qs i [])) (sym same) ∙ ap length e in
-            absurd (omega arith)
+              let same : records s ≡ rs = rw (q, records) in
+              let headed = each-at (λ r. 6 ≤ length r) rs (walk-headed s rs q) i l in
+              let gone : length (getD rs i []) ≡ 0 = ap (λ (qs : List (List ℕ)). length (getD qs i [])) (sym same) ∙ ap length e in
+              absurd (omega arith)
         ]
 
     none-empty : NoPart s i → part s i ≡ []
     none-empty (no-end q) = sym (part-none s i (rw (q, records) (omega arith)))
     none-empty (no-record q h) = sym (part-none s i (rw (q, records) h))
-
 
 -- The bytes from where record i starts to where the next one does.
 pub part-between : (s : List ℕ) (n i a e : ℕ) → Counted s n → i < n → a ≡ place (records s) i → e ≡ place (records s) (i + 1)

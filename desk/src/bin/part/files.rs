@@ -2,8 +2,10 @@
 
 use std::fs::{self, File};
 use std::io::{self, Read, Write};
-use std::path::Path;
+use std::os::unix::fs::MetadataExt;
+use std::path::{Path, PathBuf};
 
+use crate::arguments::Arguments;
 use desk::part::{Part, Table};
 use desk::{reader, record};
 
@@ -65,17 +67,49 @@ pub fn either(path: &Path) -> Result<Table, Trouble> {
     }
 }
 
-/// Writes to a file, or to standard output where there is none.
-pub fn write(path: Option<&Path>, bytes: &[u8]) -> Result<(), Trouble> {
-    let (written, place) = match path {
-        Some(path) => (fs::write(path, bytes), path.display().to_string()),
+/// Writes a command's result to the file of `-o`, or to standard output where there is none.
+pub fn write(arguments: &Arguments, bytes: &[u8]) -> Result<(), Trouble> {
+    let (written, place) = match &arguments.out {
+        Some(path) => (to_file(path, &arguments.files, bytes), path.display().to_string()),
         None => (to_standard_output(bytes), "standard output".to_string()),
     };
     written.map_err(|why| Trouble::new(USAGE, format!("part: cannot write {place}: {why}")))
+}
+
+/// Writes to a file that is none of the inputs.
+fn to_file(path: &Path, inputs: &[PathBuf], bytes: &[u8]) -> io::Result<()> {
+    if let Some(input) = inputs.iter().find(|input| same_file(path, input)) {
+        return Err(io::Error::other(format!("it is the same file as the input {}", input.display())));
+    }
+    fs::write(path, bytes)
+}
+
+/// Whether two paths lead to one file: by another spelling, a symbolic link or a hard link too.
+fn same_file(a: &Path, b: &Path) -> bool {
+    match (fs::metadata(a), fs::metadata(b)) {
+        (Ok(a), Ok(b)) => (a.dev(), a.ino()) == (b.dev(), b.ino()),
+        _ => false,
+    }
 }
 
 fn to_standard_output(bytes: &[u8]) -> io::Result<()> {
     let mut out = io::stdout().lock();
     out.write_all(bytes)?;
     out.flush()
+}
+
+#[cfg(test)]
+mod tests {
+    use super::*;
+
+    #[test]
+    fn the_same_file_by_other_spellings() {
+        let same = |a: &str, b: &str| same_file(Path::new(a), Path::new(b));
+        let here = concat!(env!("CARGO_MANIFEST_DIR"), "/examples/toggle.table");
+        assert!(same(here, here));
+        assert!(same(here, concat!(env!("CARGO_MANIFEST_DIR"), "/src/.././examples//toggle.table")));
+        assert!(!same(here, concat!(env!("CARGO_MANIFEST_DIR"), "/examples/guard.table")));
+        assert!(!same(here, "/no/such/file"));
+        assert!(!same("/no/such/file", "/no/such/file"));
+    }
 }

@@ -20,9 +20,9 @@ usage: part record FILE.table [-o OUT]                  text to record bytes
        part diff A B                                    the differences of two parts
        part draw FILE [--verdict \"LINE\"] [-o OUT]       a part as Graphviz DOT
 
-Without -o the result goes to standard output. diff and draw take a record (.part) or
-a table (.table). LINE is the line that the program verdict printed for the same part;
-draw marks the break that it names.
+Without -o the result goes to standard output; OUT may not be the file that is read.
+diff and draw take a record (.part) or a table (.table). LINE is the line that the
+program verdict printed for the same part; draw marks the break that it names.
 
 This tool is outside the proved core and never decides a verdict: ask the program
 verdict. The text form is described in desk/README.md.
@@ -34,13 +34,13 @@ exit status: 0 done, or the same part
 
 fn record_command(arguments: &Arguments) -> Result<i32, Trouble> {
     let table = files::table(&arguments.files[0])?;
-    files::write(arguments.out.as_deref(), &record::write(&table.part))?;
+    files::write(arguments, &record::write(&table.part))?;
     Ok(0)
 }
 
 fn text_command(arguments: &Arguments) -> Result<i32, Trouble> {
     let part = files::record(&arguments.files[0])?;
-    files::write(arguments.out.as_deref(), writer::write(&part).as_bytes())?;
+    files::write(arguments, writer::write(&part).as_bytes())?;
     Ok(0)
 }
 
@@ -48,11 +48,11 @@ fn diff_command(arguments: &Arguments) -> Result<i32, Trouble> {
     let [a, b] = [&arguments.files[0], &arguments.files[1]];
     let lines = differences(&files::either(a)?, &files::either(b)?);
     if lines.is_empty() {
-        files::write(None, b"same part\n")?;
+        files::write(arguments, b"same part\n")?;
         return Ok(0);
     }
     let text = format!("A is {}\nB is {}\n{}\n", a.display(), b.display(), lines.join("\n"));
-    files::write(None, text.as_bytes())?;
+    files::write(arguments, text.as_bytes())?;
     Ok(1)
 }
 
@@ -69,7 +69,7 @@ fn draw_command(arguments: &Arguments) -> Result<i32, Trouble> {
         }
     };
     let title = file.file_name().unwrap_or(file.as_os_str()).to_string_lossy();
-    files::write(arguments.out.as_deref(), draw(&table, &title, given.as_ref()).as_bytes())?;
+    files::write(arguments, draw(&table, &title, given.as_ref()).as_bytes())?;
     Ok(0)
 }
 
@@ -77,7 +77,7 @@ fn run() -> Result<i32, Trouble> {
     let arguments = arguments::read(std::env::args_os().skip(1))
         .map_err(|why| Trouble::new(USAGE, format!("part: {why}; part --help tells the usage")))?;
     match arguments.command {
-        Command::Help => files::write(None, HELP.as_bytes()).map(|()| 0),
+        Command::Help => files::write(&arguments, HELP.as_bytes()).map(|()| 0),
         Command::Record => record_command(&arguments),
         Command::Text => text_command(&arguments),
         Command::Diff => diff_command(&arguments).map_err(|trouble| Trouble::new(USAGE, trouble.message)),
