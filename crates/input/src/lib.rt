@@ -1,5 +1,6 @@
 // Standard input, read to its end.
-ghost use Prim.Native.Nat.{_≤_};
+ghost use mathlib.Core.Path.{_≡_};
+ghost use Prim.Native.Nat.{_≤_, min};
 ghost use lib.ListN.{length};
 ghost use Rattle.input.specs.Input.{Within, Brought};
 use libc::STDIN_FILENO;
@@ -13,8 +14,7 @@ pub enum Input {
 
 // At most the bytes of a chunk.
 fn within_chunk(n: usize) -> usize
-    ensures { λ r. ⌜ r ≤ n ⌝ }
-    ensures { λ r. ⌜ r ≤ 4096 ⌝ }
+    ensures { λ r. ⌜ r ≡ min n 4096 ⌝ }
 {
     if n < 4096 {
         return n;
