@@ -4,7 +4,6 @@ use mathlib.Core.Path.{_≡_, refl, sym, ap, _∙_, subst}
 use mathlib.Core.Bool.{Bool, true, false, not, _||_, _&&_, or-false}
 use mathlib.Core.Logic.{⊎-elim}
 use mathlib.Core.List.{List}
-use native.Mathlib.Omega.{arith}
 use lib.ListN.{getD}
 use lib.Dec.{eqb, ltb}
 use borrow.Author.Tests.{eq-eqb, eqb-true, lt-ltb}
@@ -16,7 +15,7 @@ use Rattle.words.proofs.Sets.{bit-zero, gathered-within}
 use Rattle.part.specs.Record.{states, events, class, row, Framed}
 use Rattle.relations.specs.Relations.{role-at, leads, silent-step, via, reach, same-class, rule-at}
 use Rattle.restrictive.specs.Tests.{around}
-use Rattle.relations.specs.Sets.{concerns, RowsWithin, Spoken, Owns, Mates, offered, Agreed, LookedUp}
+use Rattle.relations.specs.Sets.{RowsWithin, Spoken, Owns, Mates, offered, Agreed}
 use Rattle.restrictive.specs.Sets.{led-to, reached, offer, permits, Offers, Permitted, Direct, Around}
 use Rattle.restrictive.proofs.Offers.{permits-own, eqb-swap}
 use Rattle.restrictive.proofs.SilentWithin.{reach-within}

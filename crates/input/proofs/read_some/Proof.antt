@@ -6,7 +6,6 @@ use lib.Seq.{length-take-le}
 use borrow.Author.Needs.{needs}
 use Rattle.words.proofs.Laying.{laid-kept}
 use Rattle.input.specs.declared.Input.{Input}
-use Rattle.input.specs.declared.Input.the-variants.{Read}
 use Rattle.input.specs.Input.{Within}
 use Rattle.input.proofs.read_some.Statement.{statement}
 use Rattle.input.proofs.read_some.Tie as tie
