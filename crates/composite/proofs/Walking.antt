@@ -10,10 +10,12 @@ use native.Mathlib.Decide.{decLt, ℕ-discrete}
 use native.Mathlib.Omega.{arith}
 use borrow.Author.Tests.{le-ltb, lt-ltb, le-leb, lt-leb, eq-eqb, ne-eqb}
 use lib.Dec.{leb}
-use lib.ListN.{length, take, drop, set, replicate, drop-of-length-le, length-drop, length-set, length-replicate}
+use lib.ListN.{length, take, drop, set, replicate, drop-of-length-le, length-drop, length-set, length-replicate, take-append-drop}
 use lib.Seq.{drop-cons, getD-take, getD-drop, length-take-le, take-suc-set, append-snoc, drop-set-lt, drop-drop}
 use Rattle.bounded.proofs.Search.{true-not-false, true-or-false}
+use Rattle.words.specs.Arrays.{padded}
 use Rattle.words.specs.LittleEndian.{byte, number}
+use Rattle.words.proofs.Arrays.{padded-over}
 use Rattle.words.proofs.LittleEndian.{number-same}
 use Rattle.part.specs.Record.{events, entry-at, identifier, Framed}
 use Rattle.composite.specs.Merge.{merge}
@@ -214,7 +216,7 @@ module _ (a b : List ℕ) (xs : List ℕ) where
         omega (arith, t .further),
       )
 
-  pub walked-all : (f : Framed a) (g : Framed b) (count i j : ℕ) → Walked a b xs count i j → events a + events b ≤ i + j → (count ≡ length (merged a b)) × ((take count xs ≡ merged a b) × (drop count xs ≡ drop count (replicate 64 0)))
+  pub walked-all : (f : Framed a) (g : Framed b) (count i j : ℕ) → Walked a b xs count i j → events a + events b ≤ i + j → (count ≡ length (merged a b)) × (xs ≡ padded 64 (merged a b))
   walked-all f g count i j w h =
       let ia : i ≡ events a = omega (arith, w .within .0, w .within .1) in
       let jb : j ≡ events b = omega (arith, w .within .0, w .within .1) in
@@ -223,4 +225,8 @@ module _ (a b : List ℕ) (xs : List ℕ) where
       let rest : merge (drop i (identifiers a)) (drop j (identifiers b)) ≡ [] = rw (first, second) (merge-none []) in
       let all : take count xs ≡ merged a b = sym (append-nil (take count xs)) ∙ ap (λ (l : List ℕ). take count xs ++ l) (sym rest) ∙ w .so-far in
       let few : count ≤ length xs = omega (arith, w .size, w .within .2, f .most-events, g .most-events) in
-      (sym (length-take-le count xs few) ∙ ap length all, (all, w .zeros))
+      let size : count ≡ length (merged a b) = sym (length-take-le count xs few) ∙ ap length all in
+      let whole : xs ≡ merged a b ++ drop (length (merged a b)) (replicate 64 0) =
+      sym (take-append-drop count xs) ∙ ap (λ (l : List ℕ). l ++ drop count xs) all ∙ ap (λ (l : List ℕ). merged a b ++ l) (w .zeros)
+      ∙ ap (λ (k : ℕ). merged a b ++ drop k (replicate 64 0)) size in
+      (size, padded-over 64 (merged a b) whole)

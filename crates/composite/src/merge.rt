@@ -1,7 +1,8 @@
 // The merged entries of two records (specs/Merge.antt, specs/Joined.antt).
 ghost use mathlib.Core.Path.{_≡_};
 ghost use Prim.Native.Nat.{_+_, _<_, _≤_};
-ghost use lib.ListN.{length, take, drop, replicate};
+ghost use lib.ListN.{length, replicate};
+ghost use Rattle.words.specs.Arrays.{padded};
 ghost use Rattle.part.specs.Record.{events, Framed};
 ghost use Rattle.composite.specs.Joined.{merged};
 ghost use Rattle.composite.specs.Walk.{entry, comes-first, next-entry, past};
@@ -77,8 +78,7 @@ pub fn merge<'a>(a: &'a [u8], b: &'a [u8]) -> Merged
     requires { ⌜ Framed (now a) ⌝ }
     requires { ⌜ Framed (now b) ⌝ }
     ensures { λ r. ⌜ r .count ≡ length (merged (now (a .entry)) (now (b .entry))) ⌝ }
-    ensures { λ r. ⌜ take (r .count) (r .identifiers) ≡ merged (now (a .entry)) (now (b .entry)) ⌝ }
-    ensures { λ r. ⌜ drop (r .count) (r .identifiers) ≡ drop (r .count) (replicate 64 0) ⌝ }
+    ensures { λ r. ⌜ r .identifiers ≡ padded 64 (merged (now (a .entry)) (now (b .entry))) ⌝ }
 {
     let total = Part::events(a) + Part::events(b);
     let mut identifiers = zeros();

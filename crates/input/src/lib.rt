@@ -1,7 +1,7 @@
 // Standard input, read to its end.
 ghost use mathlib.Core.Path.{_≡_};
 ghost use Prim.Native.Nat.{_≤_, min};
-ghost use lib.ListN.{length};
+ghost use lib.ListN.{length, take, drop};
 ghost use Rattle.input.specs.Input.{Within, Brought};
 use libc::STDIN_FILENO;
 use words::copy::lay;
@@ -34,16 +34,18 @@ fn read_chunk(chunk: &mut [u8], most: usize) -> Input
     Input::Read(io::count(got, &chunk[..most]))
 }
 
-// One read to the start of the bytes, by way of a chunk: the system call does not promise that what lies behind the bytes read stays.
-fn read_some(bytes: &mut [u8]) -> Input
-    ensures { λ r. ⌜ Brought r (now (bytes .entry)) (now (bytes .exit)) ⌝ }
+// One read into the bytes from place at on; those before it stay. It goes by way of a chunk: the system call does not promise that what lies behind the bytes read stays.
+fn read_some(bytes: &mut [u8], at: usize) -> Input
+    requires { ⌜ at ≤ length (now bytes) ⌝ }
+    ensures { λ r. ⌜ Brought r (drop at (now (bytes .entry))) (drop at (now (bytes .exit))) ⌝ }
+    ensures { λ _. ⌜ take at (now (bytes .exit)) ≡ take at (now (bytes .entry)) ⌝ }
 {
     let mut chunk = io::buffer();
-    let read = read_chunk(&mut chunk, within_chunk(bytes.len()));
+    let read = read_chunk(&mut chunk, within_chunk(bytes.len() - at));
     let Input::Read(n) = read else {
         return Input::Failed;
     };
-    lay(&chunk[..n], bytes, 0);
+    lay(&chunk[..n], bytes, at);
     Input::Read(n)
 }
 
@@ -53,7 +55,7 @@ pub fn read_all(bytes: &mut [u8]) -> Input
 {
     let mut n = 0;
     while n < bytes.len() {
-        let Input::Read(more) = read_some(&mut bytes[n..]) else {
+        let Input::Read(more) = read_some(bytes, n) else {
             return Input::Failed;
         };
         if more == 0 {

@@ -50,9 +50,9 @@ line (breaks v) =
     ++ line-end
 
 -- An input is judged by its first 65,536 bytes.
-abbrev pub judged : ℕ
-judged = 65536
+abbrev pub judged-bytes : ℕ
+judged-bytes = 65536
 
 -- The line of an input.
 unfoldable pub line-of : List ℕ → List ℕ
-line-of input = line (verdict (take judged input))
+line-of input = line (verdict (take judged-bytes input))

@@ -6,7 +6,7 @@ ghost use lib.ListN.{length, take, drop};
 ghost use Rattle.part.specs.Answers.{number-of};
 ghost use Rattle.restrictive.specs.Answers.{named, means};
 ghost use Rattle.restrictive.specs.Verdict.{refused, breaks, verdict};
-ghost use Rattle.report.specs.Line.{line, judged, line-of};
+ghost use Rattle.report.specs.Line.{line, judged-bytes, line-of};
 use part::Rejection;
 use restrictive::Verdict;
 use restrictive::Violation;
@@ -56,7 +56,7 @@ pub fn line(v: Verdict, out: &mut [u8; LINE]) -> usize
 
 // The verdict on the first bytes of an input.
 fn judge(input: &[u8]) -> Verdict
-    ensures { λ r. ⌜ means r ≡ verdict (take judged (now (input .entry))) ⌝ }
+    ensures { λ r. ⌜ means r ≡ verdict (take judged-bytes (now (input .entry))) ⌝ }
 {
     if JUDGED < input.len() {
         return check(&input[..JUDGED]);

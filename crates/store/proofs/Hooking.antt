@@ -1,19 +1,18 @@
 -- What Hookup leaves, case by case: the joined record over the end record, or the shelf as it was. Assumes nothing.
-use Prim.Native.Nat.{ℕ, zero, suc, _+_, _-_, _≤_, _<_}
+use Prim.Native.Nat.{ℕ, _+_, _-_, _≤_, _<_}
 use mathlib.Core.Path.{_≡_, refl, sym, ap, _∙_}
 use mathlib.Core.Bool.{true, false}
 use mathlib.Core.List.{List, _++_, flatten, append-nil}
 use mathlib.Core.Option.{none, some}
 use native.Mathlib.Nat.{add-zero, mul-le-mul}
 use native.Mathlib.Omega.{arith}
-use lib.ListN.{length, take, drop, replicate, drop-of-length-le, length-drop, length-replicate}
-use lib.Seq.{take-all, take-append-seam, drop-append-seam}
+use lib.ListN.{length, take, drop, drop-of-length-le, length-drop}
+use lib.Seq.{take-all}
 use borrow.Author.Tests.{le-leb, lt-leb}
-use borrow.Table.Elements.{take-le}
 use borrow.Rule.Slice.PartMut.{midOf, putMid}
 use Rattle.bounded.proofs.Search.{true-not-false}
-use Rattle.words.specs.Laid.{over, Laid}
-use Rattle.words.proofs.Laying.{over-append, over-start, over-part}
+use Rattle.words.specs.Laid.{over}
+use Rattle.words.proofs.Laying.{over-append, over-part}
 use Rattle.part.specs.Limits.{max-record}
 use Rattle.part.proofs.Ranges.{frame}
 use Rattle.restrictive.specs.Verdict.{Verdict, pass, refused, breaks, verdict}
@@ -49,28 +48,6 @@ passing-few r p =
 
 pub joined-few : (a b : List ℕ) → Joint a b → length (joined a b) ≤ max-record
 joined-few a b j = omega (arith, joined-size a b refl refl refl, size-few a b j refl refl refl)
-
--- ---- a copy of a record
-
-abbrev zeros : ℕ → List ℕ
-zeros n = replicate n 0
-
-drop-zeros : (k n : ℕ) → drop k (zeros n) ≡ zeros (n - k)
-drop-zeros zero n = let e : n ≡ n - 0 = omega arith in ap zeros e
-drop-zeros (suc k) zero = let e : 0 ≡ 0 - suc k = omega arith in ap zeros e
-drop-zeros (suc k) (suc n) = let e : n - k ≡ suc n - suc k = omega arith in drop-zeros k n ∙ ap zeros e
-
-module _ {r out : List ℕ} {n k : ℕ} (laid : Laid (zeros n) 0 r out k) (h : length r ≤ n) where
-  whole : out ≡ r ++ zeros (n - length r)
-  whole =
-      laid .text ∙ over-start (zeros n) r (omega (arith, length-replicate {A = ℕ} n 0)) ∙ ap (λ (l : List ℕ). r ++ l) (drop-zeros (length r) n)
-
-  pub copy-laid : (take (length r) out ≡ r) × (drop (length r) out ≡ zeros (n - length r))
-  copy-laid =
-      (ap (take (length r)) whole ∙ take-append-seam r (zeros (n - length r)), ap (drop (length r)) whole ∙ drop-append-seam r (zeros (n - length r)))
-
-pub copy-whole : (r copy : List ℕ) → take (length r) copy ≡ r → length r ≤ length copy
-copy-whole r copy e = omega (arith, take-le (length r) copy, ap length e)
 
 -- ---- a record over the end record
 

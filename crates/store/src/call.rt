@@ -1,7 +1,8 @@
 // Clear, Load and Hookup (document 01, "The shelf").
 ghost use mathlib.Core.Path.{_≡_};
-ghost use Prim.Native.Nat.{_-_, _≤_};
-ghost use lib.ListN.{length, take, drop, replicate};
+ghost use Prim.Native.Nat.{_≤_};
+ghost use lib.ListN.{length};
+ghost use Rattle.words.specs.Arrays.{padded};
 ghost use Rattle.part.specs.Limits.{max-record};
 ghost use Rattle.store.specs.Answers.{clears, loads, hooks};
 ghost use Rattle.store.specs.Calls.{clear, load, passes, hookup};
@@ -64,8 +65,7 @@ fn passes(r: &[u8]) -> bool
 // A copy of the record r, which the shelf may change under, with zeros behind it.
 fn copied(r: &[u8]) -> [u8; Part::RECORD]
     requires { ⌜ length (now r) ≤ max-record ⌝ }
-    ensures { λ a. ⌜ take (length (now (r .entry))) a ≡ now (r .entry) ⌝ }
-    ensures { λ a. ⌜ drop (length (now (r .entry))) a ≡ replicate (max-record - length (now (r .entry))) 0 ⌝ }
+    ensures { λ a. ⌜ a ≡ padded max-record (now (r .entry)) ⌝ }
 {
     let mut a = [0u8; Part::RECORD];
     lay(r, &mut a, 0);

@@ -1,5 +1,4 @@
-// Reads an input from standard input and prints its line. Of a longer input only the first bytes are judged: no record is that long, so
-// they are refused.
+// Reads standard input and prints its line. Of a longer input only the first bytes are judged: no record is that long, so they are refused.
 use input::Input;
 use input::read_all;
 use libc::STDERR_FILENO;

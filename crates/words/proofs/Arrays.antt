@@ -1,13 +1,13 @@
--- Arrays of 64 words that a loop fills word by word.
-use Prim.Native.Nat.{ℕ, _+_, _<_}
-use mathlib.Core.Path.{_≡_, refl, sym, _∙_, subst}
-use mathlib.Core.List.{List}
+-- Arrays that are filled from their start: word by word by a loop, or with a list over zeros.
+use Prim.Native.Nat.{ℕ, zero, suc, _+_, _-_, _≤_, _<_}
+use mathlib.Core.Path.{_≡_, refl, sym, ap, _∙_, subst}
+use mathlib.Core.List.{List, _++_}
 use native.Mathlib.Nat.{ne-of-lt}
 use native.Mathlib.Decide.{decLt}
 use native.Mathlib.Omega.{arith}
-use lib.Seq.{getD-set-same, getD-set-other}
-use lib.ListN.{length, getD, set, replicate, length-set, length-replicate}
-use Rattle.words.specs.Arrays.{Filled}
+use lib.Seq.{getD-set-same, getD-set-other, take-append-seam}
+use lib.ListN.{length, getD, take, drop, set, replicate, length-append, length-set, length-replicate}
+use Rattle.words.specs.Arrays.{padded, Filled}
 
 module _ {holds : ℕ → ℕ → Type 0} where
   pub filled-start : {old : List ℕ} → length old ≡ 64 → Filled holds 0 old old
@@ -33,3 +33,27 @@ module _ {holds : ℕ → ℕ → Type 0} where
 -- What each word holds, said in another way.
 pub filled-as : {holds says : ℕ → ℕ → Type 0} {old xs : List ℕ} {n : ℕ} → ((s x : ℕ) → s < n → holds s x → says s x) → Filled holds n old xs → Filled says n old xs
 filled-as {xs = xs} f before = record { size = before .size; words = λ s h. f s (getD xs s 0) h (before .words s h); kept = before .kept }
+
+-- ---- zeros behind a list
+
+abbrev zeros : ℕ → List ℕ
+zeros n = replicate n 0
+
+drop-zeros : (k n : ℕ) → drop k (zeros n) ≡ zeros (n - k)
+drop-zeros zero n = let e : n ≡ n - 0 = omega arith in ap zeros e
+drop-zeros (suc k) zero = let e : 0 ≡ 0 - suc k = omega arith in ap zeros e
+drop-zeros (suc k) (suc n) = let e : n - k ≡ suc n - suc k = omega arith in drop-zeros k n ∙ ap zeros e
+
+module _ (n : ℕ) (xs : List ℕ) where
+  -- A list over the start of n zeros.
+  pub padded-over : {ys : List ℕ} → ys ≡ xs ++ drop (length xs) (replicate n 0) → ys ≡ padded n xs
+  unfolding padded
+  padded-over e = e ∙ ap (λ (l : List ℕ). xs ++ l) (drop-zeros (length xs) n)
+
+  pub padded-front : {ys : List ℕ} → ys ≡ padded n xs → take (length xs) ys ≡ xs
+  unfolding padded
+  padded-front e = ap (take (length xs)) e ∙ take-append-seam xs (zeros (n - length xs))
+
+  pub padded-within : {ys : List ℕ} → ys ≡ padded n xs → length xs ≤ length ys
+  unfolding padded
+  padded-within e = omega (arith, ap length e, length-append xs (zeros (n - length xs)))

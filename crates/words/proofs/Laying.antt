@@ -1,12 +1,12 @@
 -- The laws of bytes laid over a list. Assumes nothing.
 use Prim.Native.Nat.{ℕ, suc, _+_, _*_, _/_, _^_, _≤_, _<_}
-use mathlib.Core.Path.{_≡_, refl, sym, ap, _∙_, subst}
-use mathlib.Core.List.{List, [], _∷_, _++_}
+use mathlib.Core.Path.{_≡_, refl, sym, ap, _∙_}
+use mathlib.Core.List.{List, [], _∷_, _++_, append-assoc}
 use native.Mathlib.Nat.{ne-of-lt, zero-add, add-zero, le-add-right}
 use native.Mathlib.Numerals.{add-one}
 use native.Mathlib.Omega.{arith}
 use lib.ListN.{length, getD, take, drop, set, length-append, drop-of-length-le, take-append-drop}
-use lib.Seq.{sets, sets-eq, length-sets, set-comm, drop-cons, drop-append-seam, take-set-le, drop-set-add}
+use lib.Seq.{sets, sets-eq, length-sets, set-comm, drop-cons, take-at, drop-at, length-take-le, take-set-le, drop-set-add}
 use Rattle.words.specs.LittleEndian.{digits, each}
 use Rattle.words.specs.Laid.{over, Laid}
 use Rattle.words.proofs.LittleEndian.{length-digits, length-each, digits-split}
@@ -110,8 +110,17 @@ laid-start {d} {a} {e} {r} p h =
     let front = over-start d a (omega arith) in
     (count, cc)
 
--- What lies behind the n bytes laid at the start stays.
-pub laid-kept : {d a e : List ℕ} {r : ℕ} (n : ℕ) → Laid d 0 a e r → length a ≡ n → n ≤ length d → drop n e ≡ drop n d
-laid-kept {d} {a} {e} n p q h =
-    subst (λ (k : ℕ). drop k e ≡ drop k d) q
-    (ap (drop (length a)) (p .text ∙ over-start d a (omega arith)) ∙ drop-append-seam a (drop (length a) d))
+-- What lies before the bytes that were laid stays.
+pub laid-before : {d a e : List ℕ} {at r : ℕ} → Laid d at a e r → at + length a ≤ length d → take at e ≡ take at d
+unfolding over
+laid-before {d} {a} {e} {at} p h =
+    ap (take at) (p .text ∙ sets-eq a d at h ∙ append-assoc (take at d) a (drop (at + length a) d))
+    ∙ take-at (take at d) (a ++ drop (at + length a) d) at (length-take-le at d (omega arith))
+
+-- What lies behind the n bytes that were laid stays.
+pub laid-kept : {d a e : List ℕ} {at r : ℕ} (n : ℕ) → Laid d at a e r → length a ≡ n → at + n ≤ length d → drop (at + n) e ≡ drop (at + n) d
+unfolding over
+laid-kept {d} {a} {e} {at} n p q h =
+    let front : length (take at d ++ a) ≡ at + n = omega (arith, length-append (take at d) a, length-take-le at d (omega arith)) in
+    ap (drop (at + n)) (p .text ∙ sets-eq a d at (omega arith)) ∙ drop-at (take at d ++ a) (drop (at + length a) d) (at + n) front
+    ∙ ap (λ (k : ℕ). drop (at + k) d) q

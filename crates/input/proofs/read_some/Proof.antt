@@ -1,10 +1,10 @@
-use Prim.Native.Nat.{ℕ, _≤_}
-use mathlib.Core.Path.{_≡_, sym, subst}
+use Prim.Native.Nat.{ℕ, _+_, _≤_}
+use mathlib.Core.Path.{_≡_, sym, _∙_, subst}
 use native.Mathlib.Omega.{arith}
-use lib.ListN.{length}
-use lib.Seq.{length-take-le}
+use lib.ListN.{length, length-drop}
+use lib.Seq.{drop-drop, length-take-le}
 use borrow.Author.Needs.{needs}
-use Rattle.words.proofs.Laying.{laid-kept}
+use Rattle.words.proofs.Laying.{laid-before, laid-kept}
 use Rattle.input.specs.declared.Input.{Input}
 use Rattle.input.specs.Input.{Within}
 use Rattle.input.proofs.read_some.Statement.{statement}
@@ -23,7 +23,10 @@ module _ (c : tie.After-known-told) where
       let size : length (c .before .before .before .before .read-chunk .last .0) ≡ length (c .before .before .before .before .before .before .before .buffer .result) = c .before .before .before .before .read-chunk .kept .0 in
       omega (arith, within)
 
-  inside : n ≤ length (c .before .before .before .before .before .before .before .before .before .args .bytes .now)
+  abbrev start : tie.Start
+  start = c .before .before .before .before .before .before .before .before .before
+
+  inside : start .args .at + n ≤ length (start .args .bytes .now)
   inside = omega (arith, within)
 
 buffer-requires : tie.Need-buffer-requires
@@ -31,6 +34,9 @@ buffer-requires c κs = search needs
 
 slice-aggregate-read-chunk : tie.Need-slice-aggregate-read-chunk
 slice-aggregate-read-chunk c = search needs
+
+sub-within-chunk : tie.Need-sub-within-chunk
+sub-within-chunk c = search needs
 
 within-chunk-requires : tie.Need-within-chunk-requires
 within-chunk-requires c κs = search needs
@@ -62,7 +68,14 @@ same-length c = search needs
 returns-2 : tie.Need-returns-2
 returns-2 c =
     let told = c .before .before .before .before .before in
-    (inside told, laid-kept (n told) (c .before .before .lay .ensures) (sym (slice-aggregate-lay (c .before .before .before .before))) (inside told))
+    let at = start told .args .at in
+    let bytes = start told .args .bytes .now in
+    let laid = c .before .before .lay .ensures in
+    let size = sym (slice-aggregate-lay (c .before .before .before .before)) in
+    let behind = laid-kept (n told) laid size (inside told) in (
+      (omega (arith, inside told, length-drop at bytes), drop-drop (n told) at (c .before .before .lay .last .1 .0) ∙ behind ∙ sym (drop-drop (n told) at bytes)),
+      laid-before laid (omega (arith, inside told, size)),
+    )
 
 pub read-some-spec : {M : Type 1} → statement M
 read-some-spec =
@@ -70,6 +83,7 @@ read-some-spec =
     (tie.spec
     buffer-requires
     slice-aggregate-read-chunk
+    sub-within-chunk
     within-chunk-requires
     read-chunk-requires
     enum-known-read

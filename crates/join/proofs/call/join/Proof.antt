@@ -5,6 +5,7 @@ use Rattle.restrictive.specs.Answers as record-answers
 use Rattle.composite.specs.Joining.{length-is, buffer-after}
 use Rattle.composite.specs.Answers.{means, stops, side-of}
 use Rattle.part.proofs.Ranges.{frame}
+use Rattle.join.proofs.Turning.{lists-merged}
 use Rattle.join.proofs.Answering.{refuses, breaking, passing-accepted, joint, first-unfit, second-unfit, obstructed, roomless, roomy}
 use Rattle.join.proofs.call.join.Statement.{statement}
 use Rattle.join.proofs.call.join.Tie as tie
@@ -77,7 +78,7 @@ returns-6 c = (sym (roomless _ _ _ (sym (c .before .before .before .before .befo
 
 write-requires : tie.Need-write-requires
 unfolding record-answers.means stops
-write-requires c κs = (joint _ _ (sym (c .before .before .before .before .before .before .before .before .before .before .before .before .before .before .check .ensures) ∙ ap record-answers.means (c .before .before .before .before .before .before .before .before .before .before .before .before .enum-told .given .1)) (sym (c .before .before .before .before .before .before .before .before .before .before .before .check2 .ensures) ∙ ap record-answers.means (c .before .before .before .before .before .before .before .before .before .enum-told2 .given .1)) (sym (c .before .before .before .before .before .before .before .obstacle .ensures) ∙ ap stops (c .before .before .before .before .before .enum-told3 .given .1)), (record { size = c .before .before .before .before .before .before .before .before .merge .ensures .0; front = c .before .before .before .before .before .before .before .before .merge .ensures .1 .0 }, omega arith))
+write-requires c κs = (joint _ _ (sym (c .before .before .before .before .before .before .before .before .before .before .before .before .before .before .check .ensures) ∙ ap record-answers.means (c .before .before .before .before .before .before .before .before .before .before .before .before .enum-told .given .1)) (sym (c .before .before .before .before .before .before .before .before .before .before .before .check2 .ensures) ∙ ap record-answers.means (c .before .before .before .before .before .before .before .before .before .enum-told2 .given .1)) (sym (c .before .before .before .before .before .before .before .obstacle .ensures) ∙ ap stops (c .before .before .before .before .before .enum-told3 .given .1)), (lists-merged _ _ _ _ (c .before .before .before .before .before .before .before .before .merge .ensures .0) (c .before .before .before .before .before .before .before .before .merge .ensures .1), omega arith))
 
 same-length : tie.Need-same-length
 same-length c = search needs

@@ -9,6 +9,7 @@ use Rattle.composite.specs.Answers.{stops}
 use Rattle.part.proofs.Ranges.{frame}
 use Rattle.join.specs.Pieces.{Joint}
 use Rattle.join.proofs.Answering.{passing-accepted, joint}
+use Rattle.join.proofs.Turning.{lists-merged}
 use Rattle.store.specs.Answers.{hooks}
 use Rattle.store.proofs.Appending.{end-place}
 use Rattle.store.proofs.Hooking.{joined-few, joined-stopped, joined-full, joined-room, laid-behind}
@@ -73,7 +74,7 @@ write-requires c κs =
     let s = c .before .before .before .before .before .before .before .before .before .before .before .before .before .before .args .s .now in
     let list = c .before .before .before .before .before .before .before .before .before .before .merge .ensures in (
       joins (c .before .before .before .before .before .before .before),
-      (record { size = list .0; front = list .1 .0 }, omega (arith, mid-len (c .before .before .before .before .before .offset .result) (length s) s (omega arith))),
+      (lists-merged _ _ _ _ (list .0) (list .1), omega (arith, mid-len (c .before .before .before .before .before .offset .result) (length s) s (omega arith))),
     )
 
 add-put-end : tie.Need-add-put-end

@@ -1,5 +1,8 @@
+use mathlib.Core.Path.{_∙_}
+use native.Mathlib.Omega.{arith}
 use borrow.Author.Needs.{needs}
-use Rattle.store.proofs.Hooking.{copy-laid}
+use Rattle.words.proofs.Laying.{over-start}
+use Rattle.words.proofs.Arrays.{padded-over}
 use Rattle.store.proofs.call.copied.Statement.{statement}
 use Rattle.store.proofs.call.copied.Tie as tie
 
@@ -10,7 +13,7 @@ lay-requires : tie.Need-lay-requires
 lay-requires c κs = search needs
 
 returns : tie.Need-returns
-returns c = copy-laid (c .before .lay .ensures) (c .before .before .before .before .pre)
+returns c = padded-over _ _ (c .before .lay .ensures .text ∙ over-start _ _ (omega arith))
 
 pub copied-spec : {M : Type 1} → statement M
 copied-spec = tie.close (tie.spec slice-aggregate-lay lay-requires returns)

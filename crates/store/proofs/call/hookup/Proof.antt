@@ -3,11 +3,12 @@ use mathlib.Core.Bool.{true}
 use lib.ListN.{length}
 use borrow.Author.Needs.{needs}
 use borrow.Author.Tests.{not-true, not-false}
+use Rattle.words.proofs.Arrays.{padded-front, padded-within}
 use Rattle.restrictive.specs.Verdict.{verdict}
 use Rattle.store.specs.Answers.{counts, hooks}
 use Rattle.store.specs.Calls.{passes}
 use Rattle.store.proofs.Readings.{Counted, counted}
-use Rattle.store.proofs.Hooking.{passes-pass, passing-few, copy-whole, hookup-no-end, hookup-no-first, hookup-no-second, first-unfit, second-unfit, both-fit}
+use Rattle.store.proofs.Hooking.{passes-pass, passing-few, hookup-no-end, hookup-no-first, hookup-no-second, first-unfit, second-unfit, both-fit}
 use Rattle.store.proofs.call.hookup.Statement.{statement}
 use Rattle.store.proofs.call.hookup.Tie as tie
 
@@ -89,22 +90,22 @@ copied-requires-2 : tie.Need-copied-requires-2
 copied-requires-2 c κs = passing-few _ (passes-pass _ (second-passes (c .before)))
 
 array-share-prefix-a : tie.Need-array-share-prefix-a
-array-share-prefix-a c = copy-whole _ _ (c .before .before .copied .ensures .0)
+array-share-prefix-a c = padded-within _ _ (c .before .before .copied .ensures)
 
 slice-aggregate-append-joined : tie.Need-slice-aggregate-append-joined
-slice-aggregate-append-joined c = sym (ap length (c .before .before .before .copied .ensures .0))
+slice-aggregate-append-joined c = sym (ap length (padded-front _ _ (c .before .before .before .copied .ensures)))
 
 array-share-prefix-b : tie.Need-array-share-prefix-b
-array-share-prefix-b c = copy-whole _ _ (c .before .before .copied2 .ensures .0)
+array-share-prefix-b c = padded-within _ _ (c .before .before .copied2 .ensures)
 
 slice-aggregate-append-joined-2 : tie.Need-slice-aggregate-append-joined-2
-slice-aggregate-append-joined-2 c = sym (ap length (c .before .before .before .copied2 .ensures .0))
+slice-aggregate-append-joined-2 c = sym (ap length (padded-front _ _ (c .before .before .before .copied2 .ensures)))
 
 append-joined-requires : tie.Need-append-joined-requires
 append-joined-requires c κs =
     let walked = found (c .before .before .before .before .before .before .before .before .before .before .before .before .before .before .before) in
-    let first = ap verdict (c .before .before .before .before .copied .ensures .0) ∙ passes-pass _ (first-passes (c .before .before .before .before .before .before .before .before)) in
-    let second = ap verdict (c .before .before .before .copied2 .ensures .0) ∙ passes-pass _ (second-passes (c .before .before .before .before .before)) in
+    let first = ap verdict (padded-front _ _ (c .before .before .before .before .copied .ensures)) ∙ passes-pass _ (first-passes (c .before .before .before .before .before .before .before .before)) in
+    let second = ap verdict (padded-front _ _ (c .before .before .before .copied2 .ensures)) ∙ passes-pass _ (second-passes (c .before .before .before .before .before)) in
     (walked .ends, (sym (walked .many), (first, second)))
 
 same-length-6 : tie.Need-same-length-6
@@ -113,7 +114,7 @@ same-length-6 c = search needs
 returns-6 : tie.Need-returns-6
 returns-6 c =
     both-fit _ _ _ (found (c .before .before .before .before .before .before .before .before .before .before .before .before .before .before .before .before .before .before)) (c .before .before .before .before .before .before .before .before .before .before .before .before .before .before .before .before .if1 .left) (c .before .before .before .before .before .before .before .before .before .before .before .before .before .before .before .if2 .left) (c .before .before .before .before .before .before .before .before .before .before .before .before .before .part .ensures) (c .before .before .before .before .before .before .before .before .before .before .part2 .ensures)
-    (first-passes (c .before .before .before .before .before .before .before .before .before .before .before)) (second-passes (c .before .before .before .before .before .before .before .before)) (c .before .before .before .before .before .before .before .copied .ensures .0) (c .before .before .before .before .before .before .copied2 .ensures .0) (c .before .before .append-joined .ensures)
+    (first-passes (c .before .before .before .before .before .before .before .before .before .before .before)) (second-passes (c .before .before .before .before .before .before .before .before)) (padded-front _ _ (c .before .before .before .before .before .before .before .copied .ensures)) (padded-front _ _ (c .before .before .before .before .before .before .copied2 .ensures)) (c .before .before .append-joined .ensures)
 
 pub hookup-spec : {M : Type 1} → statement M
 hookup-spec =
