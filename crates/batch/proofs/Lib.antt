@@ -1,5 +1,4 @@
-pub mod Slotting
-pub mod Decoded
-pub mod Listing
-pub mod Running
+pub mod Slots
+pub mod Calls
+pub mod Runs
 pub mod Theorems

@@ -1,4 +1,4 @@
--- Demand 3 about one call of the code. Assumes nothing.
+-- Demand 3 about one call of the code.
 use Prim.Native.Nat.{ℕ, _+_, _≤_, _<_}
 use mathlib.Core.Path.{_≡_, sym, ap, _∙_}
 use mathlib.Core.List.{List, [], _∷_}
@@ -9,15 +9,19 @@ use lib.Seq.{length-take-le, getD-take, getD-drop}
 use Rattle.words.specs.LittleEndian.{Bytes}
 use Rattle.words.specs.Laid.{over}
 use Rattle.words.proofs.LittleEndian.{byte-lt}
+use Rattle.script.specs.Operation as script
+use Rattle.script.specs.Operation.{operation, size}
+use Rattle.script.proofs.Operations.{Stands, a-clear, a-load, a-hookup, a-count, a-part, at-end, cut-off, another}
+use Rattle.script.proofs.Operations.{stands}
 use Rattle.store.specs.Answer.{Answer}
-use Rattle.store.specs.Model.{Call, clear}
+use Rattle.store.specs.Model.{Call, clear, load, hookup}
 use Rattle.store.specs.Demand.{BytesLoaded}
 use Rattle.store.proofs.Theorems.{demand3}
-use Rattle.batch.specs.Script.{size-of, calls}
+use Rattle.batch.specs.Script.{call-of, calls}
 use Rattle.batch.specs.Slots.{slots}
 use Rattle.batch.specs.Theorems.{RunDemand3}
-use Rattle.batch.proofs.Listing.{Stands, a-clear, a-load, a-hookup, stands, calls-some-left, calls-first}
-use Rattle.batch.proofs.Running.{run-all}
+use Rattle.batch.proofs.Calls.{calls-some-left, calls-first}
+use Rattle.batch.proofs.Runs.{run-all}
 
 -- ---- the records that a script of bytes loads
 
@@ -27,10 +31,20 @@ bytes-drop n b h i l = rw getD-drop (byte-lt b h (n + i))
 bytes-take : (n : ℕ) (b : List ℕ) → n ≤ length b → Bytes b → Bytes (take n b)
 bytes-take n b w h i l = let inside : i < n = omega (arith, length-take-le n b w) in rw getD-take (byte-lt b h i)
 
-loaded-one : {s : List ℕ} {c : Call} (cs : List Call) → Bytes s → Stands s c → BytesLoaded cs → BytesLoaded (c ∷ cs)
-loaded-one cs b (a-clear l) more = more
-loaded-one {s} cs b (a-load n l) more = (bytes-take n (drop 5 s) (simp length-drop (omega arith)) (bytes-drop 5 s b), more)
-loaded-one cs b (a-hookup i j l) more = more
+loaded-one : {s : List ℕ} {o : script.Operation} {c : Call} (cs : List Call) → Bytes s → Stands s o
+    → call-of o ≡ some c → BytesLoaded cs
+    → BytesLoaded (c ∷ cs)
+unfolding call-of
+loaded-one {s} {o} {c} cs b (a-clear l) e more = let is : clear ≡ c = cc in rw (← is) more
+loaded-one {s} {o} {c} cs b (a-load n l) e more =
+    let is : load (take n (drop 5 s)) ≡ c = cc in
+    rw (← is) (bytes-take n (drop 5 s) (simp length-drop (omega arith)) (bytes-drop 5 s b), more)
+loaded-one {s} {o} {c} cs b (a-hookup i j l) e more = let is : hookup i j ≡ c = cc in rw (← is) more
+loaded-one cs b (a-count l) e more = let z : _≡_ {A = ℕ} 0 1 = cc in absurd (omega arith)
+loaded-one cs b (a-part i l) e more = let z : _≡_ {A = ℕ} 0 1 = cc in absurd (omega arith)
+loaded-one cs b at-end e more = let z : _≡_ {A = ℕ} 0 1 = cc in absurd (omega arith)
+loaded-one cs b cut-off e more = let z : _≡_ {A = ℕ} 0 1 = cc in absurd (omega arith)
+loaded-one cs b another e more = let z : _≡_ {A = ℕ} 0 1 = cc in absurd (omega arith)
 
 loaded : (cs : List Call) (s : List ℕ) → Bytes s → calls s ≡ some cs → BytesLoaded cs
 loaded [] s b e = tt
@@ -39,8 +53,9 @@ loaded (c ∷ cs) s b e =
     let all = f .all in
     let first : f .call ≡ c = cc in
     let rest : f .others ≡ cs = cc in
-    loaded-one cs b (stands s c (f .is ∙ ap some first))
-    (loaded cs (drop (size-of (f .call)) s) (bytes-drop (size-of (f .call)) s b) (f .behind ∙ ap some rest))
+    let n = size (operation s) in
+    loaded-one cs b (stands s) (f .is ∙ ap some first)
+    (loaded cs (drop n s) (bytes-drop n s b) (f .behind ∙ ap some rest))
 
 -- ---- demand 3
 

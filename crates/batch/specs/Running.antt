@@ -28,5 +28,10 @@ run-calls cs s out =
     cond (ltb (length out) (length cs * 48)) (record { outcome = too-few; shelf = s; answers = out })
     (record { outcome = ran (length cs); shelf = shelf-after cs s; answers = over out 0 (slots (shelf-answers cs s)) })
 
+-- The calls of a script, run; a malformed script leaves both buffers as they were.
 unfoldable pub run : List ℕ → List ℕ → List ℕ → Left
-run script s out = elim (calls script) [ none ↦ record { outcome = malformed; shelf = s; answers = out } | some cs ↦ run-calls cs s out ]
+run script s out =
+    elim (calls script) [
+      | none ↦ record { outcome = malformed; shelf = s; answers = out }
+      | some cs ↦ run-calls cs s out
+    ]

@@ -1,12 +1,12 @@
 -- A whole list of calls as bytes: the operations of a replay script, without Count and Part.
-use Prim.Native.Nat.{ℕ, zero, suc, _+_}
+use Prim.Native.Nat.{ℕ, zero, suc}
 use mathlib.Core.Bool.{cond}
 use mathlib.Core.List.{List, [], _∷_}
 use mathlib.Core.Option.{Option, none, some, Option·map}
 use lib.Dec.{ltb}
 use lib.ListN.{length, drop}
 use Rattle.script.specs.Operation as script
-use Rattle.script.specs.Operation.{Operation, operation}
+use Rattle.script.specs.Operation.{Operation, operation, size}
 use Rattle.store.specs.Model.{Call, clear, load, hookup}
 
 -- The call of an operation, if it is Clear, Load or Hookup.
@@ -20,23 +20,16 @@ call-of script.ended = none
 call-of script.truncated = none
 call-of script.unknown = none
 
--- How many bytes a call takes.
-unfoldable pub size-of : Call → ℕ
-size-of clear = 1
-size-of (load r) = 5 + length r
-size-of (hookup i j) = 9
-
--- The same; 0, where there is no call.
-unfoldable pub sized : Option Call → ℕ
-sized none = 0
-sized (some c) = size-of c
-
--- The calls, one behind the other to the end of the bytes; none, where something else stands among them. At most so many are looked at.
+-- The calls, one behind the other to the end of the bytes; none, where something else stands among them. At most so
+-- many are looked at.
 unfoldable pub calls-at-most : ℕ → List ℕ → Option (List Call)
 calls-at-most zero s = none
 calls-at-most (suc k) s =
     cond (ltb (length s) 1) (some [])
-    (elim (call-of (operation s)) [ none ↦ none | some c ↦ Option·map (λ (cs : List Call). c ∷ cs) (calls-at-most k (drop (size-of c) s)) ])
+    (elim (call-of (operation s)) [
+      | none ↦ none
+      | some c ↦ Option·map (λ (cs : List Call). c ∷ cs) (calls-at-most k (drop (size (operation s)) s))
+    ])
 
 -- Each call has a byte, so that no script has more calls than bytes.
 unfoldable pub calls : List ℕ → Option (List Call)

@@ -1,4 +1,4 @@
--- Demand 3 about one call of the code: a script that begins with Clear, on a shelf of six bytes or more, with bytes enough for the answers.
+-- Demand 3 about one call of the code: a script that begins with Clear, a shelf of six bytes, room for the answers.
 use Prim.Native.Nat.{ℕ, suc, _*_, _≤_}
 use mathlib.Core.Path.{_≡_}
 use mathlib.Core.List.{List, [], _∷_}
@@ -22,5 +22,6 @@ pub record RunMeets (script s out : List ℕ) (cs : List Call) : Type 0 where
 
 abbrev pub RunDemand3 : Type 0
 RunDemand3 =
-    (script s out : List ℕ) (cs : List Call) → Bytes script → calls script ≡ some (clear ∷ cs) → 6 ≤ length s → suc (length cs) * 48 ≤ length out
+    (script s out : List ℕ) (cs : List Call) → Bytes script → calls script ≡ some (clear ∷ cs) → 6 ≤ length s
+    → suc (length cs) * 48 ≤ length out
     → RunMeets script s out cs

@@ -6,6 +6,7 @@ pub enum Listing {
     Malformed,
 }
 
+// How a run ends.
 pub enum Running {
     // So many calls were made.
     Ran(usize),

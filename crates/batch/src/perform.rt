@@ -1,81 +1,43 @@
-// The calls of a script: how many they are, and one call done (specs/Script.antt).
-ghost use mathlib.Core.Path.{_≡_};
-ghost use mathlib.Core.Option.{some, Option·map};
-ghost use Prim.Native.Nat.{_+_, _<_, _≤_};
-ghost use lib.ListN.{length, drop};
-ghost use Rattle.script.specs.Operation.{operation};
-ghost use Rattle.store.specs.Model.{Call};
-ghost use Rattle.batch.specs.Answers.{lists};
-ghost use Rattle.batch.specs.Performed.{Performed};
-ghost use Rattle.batch.specs.Script.{call-of, sized, calls};
-use crate::answer::Listing;
+// One call of a script on a shelf.
+ghost use Prim.Native.Nat.{_+_, _≤_};
+ghost use lib.ListN.{length};
+ghost use Rattle.script.specs.Answers.{operation-of-call, Inside};
+ghost use Rattle.store.specs.Answers.{answer-of};
+ghost use Rattle.batch.specs.Performed.{Answered, Performed};
 use crate::slot::put_answer;
-use script::Operation;
 use script::decode;
+use script::operation::Call;
+use script::operation::Operation;
+use store::answer::Answer;
 use store::call::clear;
 use store::call::hookup;
 use store::call::load;
 
-// How many bytes the call at a place takes; 0, where no call stands there.
-fn call_size(script: &[u8], at: usize) -> usize
-    requires { ⌜ at < length (now script) ⌝ }
-    ensures { λ r. ⌜ sized (call-of (operation (drop at (now (script .entry))))) ≡ r ⌝ }
-    ensures { λ r. ⌜ at + r ≤ length (now (script .entry)) ⌝ }
+// Makes a call of the script.
+pub fn perform(script: &[u8], call: Call, shelf: &mut [u8]) -> Answer
+    requires { ⌜ Inside call (now script) ⌝ }
+    ensures { λ r. ⌜ Answered (operation-of-call call (now (script .entry))) (now (shelf .entry)) (answer-of r)
+        (now (shelf .exit)) ⌝ }
 {
-    let op = decode(script, at);
-    match op {
-        Operation::Clear => 1,
-        Operation::Load(n) => 5 + n,
-        Operation::Hookup(_, _) => 9,
-        Operation::Count => 0,
-        Operation::Part(_) => 0,
-        Operation::Ended => 0,
-        Operation::Truncated => 0,
-        Operation::Unknown => 0,
+    match call {
+        Call::Clear => clear(shelf),
+        Call::Load(start, end) => load(shelf, &script[start..end]),
+        Call::Hookup(i, j) => hookup(shelf, i, j),
     }
-}
-
-// How many calls a script has.
-pub fn listing(script: &[u8]) -> Listing
-    ensures { λ r. ⌜ lists r ≡ Option·map length (calls (now (script .entry))) ⌝ }
-{
-    let mut at = 0;
-    let mut n = 0;
-    while at < script.len() {
-        let size = call_size(script, at);
-        if size == 0 {
-            return Listing::Malformed;
-        }
-        at += size;
-        n += 1;
-    }
-    Listing::Calls(n)
 }
 
 // Makes the call at a place, lays its answer over out, and answers the place behind it.
-pub fn perform(script: &[u8], at: usize, shelf: &mut [u8], out: &mut [u8], slot: usize) -> usize
+pub fn perform_at(script: &[u8], at: usize, shelf: &mut [u8], out: &mut [u8], slot: usize) -> usize
     requires { ⌜ at ≤ length (now script) ⌝ }
     requires { ⌜ slot + 48 ≤ length (now out) ⌝ }
-    ensures { λ r. ⌜ ((c : Call) → call-of (operation (drop at (now (script .entry)))) ≡ some c → Performed c (now (shelf .entry)) (now (shelf .exit)) (now (out .entry)) slot (now (out .exit)) at r) ⌝ }
+    ensures { λ r. ⌜ Performed (now (script .entry)) at (now (shelf .entry)) (now (shelf .exit)) (now (out .entry))
+        slot (now (out .exit)) r ⌝ }
 {
-    let op = decode(script, at);
-    match op {
-        Operation::Clear => {
-            put_answer(out, slot, clear(shelf).answer());
-            at + 1
-        }
-        Operation::Load(n) => {
-            put_answer(out, slot, load(shelf, &script[at + 5..at + 5 + n]).answer());
-            at + 5 + n
-        }
-        Operation::Hookup(i, j) => {
-            put_answer(out, slot, hookup(shelf, i, j).answer());
-            at + 9
-        }
-        Operation::Count => at,
-        Operation::Part(_) => at,
-        Operation::Ended => at,
-        Operation::Truncated => at,
-        Operation::Unknown => at,
-    }
+    let d = decode(script, at);
+    let op = d.0;
+    let Operation::Call(call) = op else {
+        return at;
+    };
+    put_answer(out, slot, perform(script, call, shelf));
+    at + d.1
 }

@@ -1,41 +1,42 @@
 // A script of Clear, Load and Hookup calls run on a shelf (specs/Running.antt).
 ghost use mathlib.Core.Path.{_≡_};
 ghost use mathlib.Core.Option.{some};
-ghost use mathlib.Core.List.{List};
 ghost use Prim.Native.Nat.{_*_, _≤_};
 ghost use lib.ListN.{length};
 ghost use Rattle.words.specs.Laid.{over};
-ghost use Rattle.store.specs.Model.{Call};
 ghost use Rattle.store.specs.Demand.{shelf-after, shelf-answers};
-ghost use Rattle.batch.specs.Answers.{means};
+ghost use Rattle.batch.specs.Answers.{outcome-of};
 ghost use Rattle.batch.specs.Running.{run};
 ghost use Rattle.batch.specs.Script.{calls, listed};
 ghost use Rattle.batch.specs.Slots.{slots};
 use crate::answer::Listing;
 use crate::answer::Running;
-use crate::perform::listing;
-use crate::perform::perform;
+use crate::listing::listing;
+use crate::perform::perform_at;
 
 // The bytes of an answer.
 const SLOT: usize = 48;
 
+// Makes all calls of the script.
 fn perform_all(script: &[u8], shelf: &mut [u8], out: &mut [u8])
     requires { ⌜ calls (now script) ≡ some (listed (now script)) ⌝ }
     requires { ⌜ length (listed (now script)) * 48 ≤ length (now out) ⌝ }
     ensures { λ _. ⌜ now (shelf .exit) ≡ shelf-after (listed (now (script .entry))) (now (shelf .entry)) ⌝ }
-    ensures { λ _. ⌜ now (out .exit) ≡ over (now (out .entry)) 0 (slots (shelf-answers (listed (now (script .entry))) (now (shelf .entry)))) ⌝ }
+    ensures { λ _. ⌜ now (out .exit)
+        ≡ over (now (out .entry)) 0 (slots (shelf-answers (listed (now (script .entry))) (now (shelf .entry)))) ⌝ }
 {
     let mut at = 0;
     let mut slot = 0;
     while at < script.len() {
-        at = perform(script, at, shelf, out, slot);
+        at = perform_at(script, at, shelf, out, slot);
         slot += SLOT;
     }
 }
 
-// Makes all calls of the script, and lays an answer of 48 bytes for each over the start of out; or none, where that cannot be.
+// Makes all calls of the script, and lays an answer of 48 bytes for each over the start of out; or none, where that
+// cannot be.
 pub fn run(script: &[u8], shelf: &mut [u8], out: &mut [u8]) -> Running
-    ensures { λ r. ⌜ means r ≡ run (now (script .entry)) (now (shelf .entry)) (now (out .entry)) .outcome ⌝ }
+    ensures { λ r. ⌜ outcome-of r ≡ run (now (script .entry)) (now (shelf .entry)) (now (out .entry)) .outcome ⌝ }
     ensures { λ r. ⌜ now (shelf .exit) ≡ run (now (script .entry)) (now (shelf .entry)) (now (out .entry)) .shelf ⌝ }
     ensures { λ r. ⌜ now (out .exit) ≡ run (now (script .entry)) (now (shelf .entry)) (now (out .entry)) .answers ⌝ }
 {

@@ -1,5 +1,5 @@
--- The laws of bounded searches: what an answer tells of each number below the bound, and how a loop that has searched below i goes on.
--- Assumes nothing.
+-- The laws of bounded searches: what an answer tells of each number below the bound, and how a loop that has searched
+-- below i goes on.
 use Prim.Native.Nat.{ℕ, zero, suc, _+_, _<_}
 use mathlib.Core.Path.{_≡_, refl, sym, ap, _∙_, subst}
 use mathlib.Core.Bool.{Bool, true, false, not, _||_, _&&_, or-true, or-false}
@@ -45,16 +45,16 @@ or-right true b e = absurd (true-not-false refl e)
 or-right false b e = e
 
 pub or-now : (a b : Bool) → a ≡ true → (a || b) ≡ true
-or-now a b e = ap (λ (x : Bool). x || b) e
+or-now a b e = rw e
 
 pub or-then : (a b : Bool) → a ≡ false → (a || b) ≡ b
-or-then a b e = ap (λ (x : Bool). x || b) e
+or-then a b e = rw e
 
 pub and-now : (a b : Bool) → a ≡ true → (a && b) ≡ b
-and-now a b e = ap (λ (x : Bool). x && b) e
+and-now a b e = rw e
 
 pub and-never : (a b : Bool) → a ≡ false → (a && b) ≡ false
-and-never a b e = ap (λ (x : Bool). x && b) e
+and-never a b e = rw e
 
 pub and-left : (a b : Bool) → (a && b) ≡ true → a ≡ true
 and-left true b e = refl
@@ -63,6 +63,11 @@ and-left false b e = e
 pub and-right : (a b : Bool) → (a && b) ≡ true → b ≡ true
 and-right true b e = e
 and-right false b e = absurd (true-not-false e refl)
+
+-- Under a test that passes, two tests are the same.
+pub and-under : (a p q : Bool) → (a ≡ true → p ≡ q) → (a && p) ≡ (a && q)
+and-under true p q h = h refl
+and-under false p q h = refl
 
 -- "If a then b" as a test.
 pub imp-elim : (a b : Bool) → (not a || b) ≡ true → a ≡ true → b ≡ true
@@ -98,12 +103,12 @@ module _ (f : ℕ → Bool) where
   any-at zero i h e = absurd (not-suc-le-zero h)
   any-at (suc n) i h e =
       ⊎-elim
-      (λ q. ap (λ (b : Bool). any n f || b) (subst (λ (k : ℕ). f k ≡ true) q e) ∙ or-true (any n f))
-      (λ l. ap (λ (b : Bool). b || f n) (any-at n i l e))
+      (λ q. rw (subst (λ (k : ℕ). f k ≡ true) q e) (or-true (any n f)))
+      (λ l. rw (any-at n i l e))
       (last-or-below h)
 
   pub any-none : (n : ℕ) → any n f ≡ false → (i : ℕ) → i < n → f i ≡ false
-  any-none n e i h = is-false (f i) (λ t. true-not-false (any-at n i h t) e)
+  any-none n e i h = is-false _ (λ t. true-not-false (any-at n i h t) e)
 
 -- ---- all
 
@@ -122,8 +127,8 @@ module _ (f : ℕ → Bool) where
   all-at zero e i h = absurd (not-suc-le-zero h)
   all-at (suc n) e i h =
       ⊎-elim
-      (λ q. subst (λ (k : ℕ). f k ≡ true) (sym q) (and-right (all n f) (f n) e))
-      (λ l. all-at n (and-left (all n f) (f n) e) i l)
+      (λ q. subst (λ (k : ℕ). f k ≡ true) (sym q) (and-right (all n f) _ e))
+      (λ l. all-at n (and-left _ _ e) i l)
       (last-or-below h)
 
 -- ---- first
@@ -164,9 +169,9 @@ module _ {A : Type 0} (f : ℕ → Option A) where
   first-found (suc n) a e = go (first n f) refl (first-found n a)
     where
       go : (o : Option A) → first n f ≡ o → (first n f ≡ some a → FoundAt n f a) → FoundAt (suc n) f a
-      go none q rest = record { at = n; below = lt-suc-self n; found = sym (ap (λ (o : Option A). or-else o (f n)) q) ∙ e; before = first-none n q }
+      go none q rest = record { at = n; below = lt-suc-self n; found = sym (rw q) ∙ e; before = first-none n q }
       go (some x) q rest =
-          let w = rest (q ∙ sym (ap (λ (o : Option A). or-else o (f n)) q) ∙ e) in
+          let w = rest (q ∙ sym (rw q) ∙ e) in
           record { at = w .at; below = le-step (w .below); found = w .found; before = w .before }
 
   pub first-at : (n : ℕ) (a : A) → FoundAt n f a → first n f ≡ some a
@@ -174,9 +179,9 @@ module _ {A : Type 0} (f : ℕ → Option A) where
   first-at zero a w = absurd (not-suc-le-zero (w .below))
   first-at (suc n) a w =
       ⊎-elim
-      (λ q. ap (λ (o : Option A). or-else o (f n)) (first-nothing n (λ j l. w .before j (subst (λ (k : ℕ). j < k) (sym q) l)))
-      ∙ subst (λ (k : ℕ). f k ≡ some a) q (w .found))
-      (λ l. ap (λ (o : Option A). or-else o (f n)) (first-at n a (record { at = w .at; below = l; found = w .found; before = w .before })))
+      (λ q. rw (first-nothing n (λ j l. w .before j (subst (λ (k : ℕ). j < k) (sym q) l)))
+      (subst (λ (k : ℕ). f k ≡ some a) q (w .found)))
+      (λ l. rw (first-at n a (record { at = w .at; below = l; found = w .found; before = w .before })))
       (last-or-below (w .below))
 
 -- ---- a loop that searches, written as its answer: found at i, or i has come to the bound
@@ -208,20 +213,35 @@ any-found zero f e = absurd (true-not-false e refl)
 any-found (suc n) f e =
     ⊎-elim
     (λ here. (n, lt-suc-self n, here))
-    (λ none-here. let w = any-found n f (sym (or-else-first (any n f) (f n) none-here) ∙ e) in (w .0, le-step (w .1), w .2))
-    (true-or-false (f n))
+    (λ none-here. let w = any-found n f (sym (or-else-first _ _ none-here) ∙ e) in (w .0, le-step (w .1), w .2))
+    (true-or-false _)
   where
     or-else-first : (p q : Bool) → q ≡ false → (p || q) ≡ p
-    or-else-first p q h = ap (λ (x : Bool). p || x) h ∙ or-false p
+    or-else-first p q h = rw h (or-false p)
+
+-- A search in which every test fails.
+pub any-fails : (n : ℕ) (f : ℕ → Bool) → ((i : ℕ) → i < n → f i ≡ false) → any n f ≡ false
+any-fails n f h = is-false _ (λ e. let w = any-found n f e in true-not-false (w .2) (h (w .0) (w .1)))
 
 pub any-same : (n : ℕ) (f g : ℕ → Bool) → ((i : ℕ) → i < n → f i ≡ g i) → any n f ≡ any n g
 any-same n f g h =
-    same-truth (any n f) (any n g)
-    (λ e. let w = any-found n f e in any-at g n (w .0) (w .1) (sym (h (w .0) (w .1)) ∙ w .2))
-    (λ e. let w = any-found n g e in any-at f n (w .0) (w .1) (h (w .0) (w .1) ∙ w .2))
+    same-truth _ _
+    (λ e. let w = any-found n f e in any-at g n _ (w .1) (sym (h (w .0) (w .1)) ∙ w .2))
+    (λ e. let w = any-found n g e in any-at f n _ (w .1) (h (w .0) (w .1) ∙ w .2))
 
 pub all-same : (n : ℕ) (f g : ℕ → Bool) → ((i : ℕ) → i < n → f i ≡ g i) → all n f ≡ all n g
 all-same n f g h =
-    same-truth (all n f) (all n g)
+    same-truth _ _
     (λ e. all-intro g n (λ i l. sym (h i l) ∙ all-at f n e i l))
     (λ e. all-intro f n (λ i l. h i l ∙ all-at g n e i l))
+
+-- ---- a search of two tests
+
+module _ (n : ℕ) (f g : ℕ → Bool) where
+  pub both-found : any n (λ i. f i && g i) ≡ true → (i : ℕ) × (i < n) × (f i ≡ true) × (g i ≡ true)
+  both-found e =
+      let w = any-found n _ e in
+      (w .0, w .1, and-left _ _ (w .2), and-right (f (w .0)) _ (w .2))
+
+  pub both-at : (i : ℕ) → i < n → f i ≡ true → g i ≡ true → any n (λ i. f i && g i) ≡ true
+  both-at i h p q = any-at _ n i h (and-now _ _ p ∙ q)

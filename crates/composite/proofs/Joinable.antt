@@ -1,5 +1,6 @@
--- The obstacles of the code are the conditions of document 01: 9 and 10 say that two records are not joinable, 10 with the smallest identifier
--- that clashes, and no obstacle says that they join. Assumes nothing.
+-- The obstacles of the code are the conditions of document 01: 9 and 10 say that two records are not joinable, 10 with
+-- the smallest identifier
+-- that clashes, and no obstacle says that they join.
 use Prim.Native.Nat.{ℕ, _*_, _≤_, _<_}
 use mathlib.Core.Path.{_≡_, refl, ap, _∙_, subst}
 use mathlib.Core.Bool.{Bool, true, false, not}
@@ -12,16 +13,36 @@ use lib.Dec.{ltb}
 use lib.ListN.{length}
 use borrow.Author.Tests.{eqb-true, eq-eqb, ltb-false, le-ltb, not-false}
 use Rattle.bounded.specs.Search.{or-else}
-use Rattle.bounded.proofs.Search.{true-not-false, is-true, or-left, or-right, or-then, first-none, first-nothing, first-found, first-at}
-use Rattle.part.specs.Limits.{max-states, max-events}
+use Rattle.bounded.proofs.Search.{
+  true-not-false,
+  is-true,
+  or-left,
+  or-right,
+  or-then,
+  first-none,
+  first-nothing,
+  first-found,
+  first-at,
+}
+use Rattle.part.specs.Format.{max-states, max-events}
 use Rattle.part.specs.Record.{observer, states, events, identifier}
 use Rattle.part.specs.Rejections.{Accepted}
-use Rattle.part.specs.Machine.{place, event-of}
+use Rattle.part.specs.Events.{place, event-of}
 use Rattle.part.proofs.Ranges.{ranges}
 use Rattle.part.proofs.Places.{places, event-placed}
 use Rattle.composite.specs.Meeting.{clashes}
 use Rattle.composite.specs.Joined.{merged}
-use Rattle.composite.specs.Joining.{Obstacle, refusal, clash, when, observers-differ, clash-at, first-clash, too-large, obstacle}
+use Rattle.composite.specs.Joining.{
+  Obstacle,
+  refusal,
+  clash,
+  when,
+  observers-differ,
+  clash-at,
+  first-clash,
+  too-large,
+  obstacle,
+}
 use Rattle.composite.specs.Theorems.{FitsAt, JoinableExactly, ClashExactly, JoinsExactly}
 use Rattle.composite.proofs.Meetings.{clear-opposite, opposite-clear}
 
@@ -47,7 +68,8 @@ or-else-none (some o) y = (λ e. absurd (let z : _≡_ {A = ℕ} 0 1 = cc in ome
 module _ (a b : List ℕ) where
   observers-equal : (observers-differ a b ≡ false) ↔ (observer a ≡ observer b)
   unfolding observers-differ
-  observers-equal = (λ e. eqb-true (observer a) (observer b) (not-false _ e), λ q. ap not (eq-eqb (observer a) (observer b) q))
+  observers-equal =
+      (λ e. eqb-true (observer a) (observer b) (not-false _ e), λ q. ap not (eq-eqb (observer a) (observer b) q))
 
   clear-fits : (e : ℕ) → (clashes (event-of a e) (event-of b e) ≡ false) ↔ FitsAt a b e
   clear-fits e = (λ c i j k l p q. clear-opposite i j k l (cc), opposite-clear (event-of a e) (event-of b e))
@@ -65,8 +87,11 @@ module _ (a b : List ℕ) where
   clash-found n e c =
       let d = identifier a n in
       let w = when-some (clashes (event-of a d) (event-of b d)) (clash d) (clash e) c in
-      let q : d ≡ e = cc (w .1) in
-      (q, λ f. true-not-false (subst (λ (x : ℕ). clashes (event-of a x) (event-of b x) ≡ true) q (w .0)) (clear-fits e .1 f))
+      let q : d ≡ e = cc (w .1) in (
+        q,
+        λ f. true-not-false (subst (λ (x : ℕ). clashes (event-of a x) (event-of b x) ≡ true) q (w .0))
+            (clear-fits e .1 f),
+      )
 
   clash-there : (n e : ℕ) → identifier a n ≡ e → (FitsAt a b e → ⊥) → clash-at a b n ≡ some (clash e)
   unfolding clash-at when
@@ -83,9 +108,14 @@ joinable-exactly a b p q = (
     observers = observers-equal a b .0 (w .0);
     fits = λ e. fits-placed a b e (λ n h.
         let s = places a p .stands e n h in
-        subst (λ (d : ℕ). FitsAt a b d) (s .1) (no-clash a b n .0 (first-none (clash-at a b) (events a) (w .1) n (s .0))));
+        subst (λ (d : ℕ). FitsAt a b d) (s .1)
+        (no-clash a b n .0 (first-none (clash-at a b) (events a) (w .1) n (s .0))));
   },
-  λ j. (observers-equal a b .1 (j .observers), first-nothing (clash-at a b) (events a) (λ n l. no-clash a b n .1 (j .fits (identifier a n)))),
+  λ j. (
+    observers-equal a b .1 (j .observers),
+    first-nothing (clash-at a b) (events a)
+        (λ n l. no-clash a b n .1 (j .fits (identifier a n))),
+  ),
 )
 
 -- ---- the smallest identifier that clashes
@@ -99,7 +129,8 @@ module _ (a b : List ℕ) (p : Accepted a) (e : ℕ) where
         f .1,
         λ d l. fits-placed a b d (λ n h.
             let s = places a p .stands d n h in
-            subst (λ (x : ℕ). FitsAt a b x) (s .1) (no-clash a b n .0 (w .before n (earlier n (w .at) (s .0) (omega arith))))),
+            subst (λ (x : ℕ). FitsAt a b x) (s .1)
+            (no-clash a b n .0 (w .before n (earlier n (w .at) (s .0) (omega arith))))),
       )
     where
       earlier : (n m : ℕ) → n < events a → identifier a n < identifier a m → n < m
@@ -124,7 +155,9 @@ module _ (a b : List ℕ) (p : Accepted a) (e : ℕ) where
             at = n;
             below = s .0;
             found = clash-there a b n e (s .1) u;
-            before = λ j l. no-clash a b j .1 (below (identifier a j) (omega (arith, ranges a p .identifiers-rise j n l (s .0))));
+            before =
+                λ j l. no-clash a b j .1
+                (below (identifier a j) (omega (arith, ranges a p .identifiers-rise j n l (s .0))));
           })
 
 pub clash-exactly : ClashExactly
@@ -132,7 +165,8 @@ clash-exactly a b e p q = (first-clash-least a b p e, λ w. least-first-clash a 
 
 -- ---- 11, and all three
 
-small : (a b : List ℕ) → (too-large a b ≡ false) ↔ ((states a * states b ≤ max-states) × (length (merged a b) ≤ max-events))
+small : (a b : List ℕ) → (too-large a b ≡ false)
+    ↔ ((states a * states b ≤ max-states) × (length (merged a b) ≤ max-events))
 unfolding too-large
 small a b =
     let n = states a * states b in

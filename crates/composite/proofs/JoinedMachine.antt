@@ -1,4 +1,4 @@
--- The machine of the joined record is the hookup of the two machines, with the product of their partitions. Assumes nothing.
+-- The machine of the joined record is the hookup of the two machines, with the product of their partitions.
 use Prim.Native.Nat.{ℕ, _*_, _/_, _%_, _<_}
 use mathlib.Core.Path.{_≡_, refl, sym, ap, _∙_, subst}
 use mathlib.Core.HLevel.{Σ-prop-path}
@@ -18,20 +18,21 @@ use Rattle.words.specs.Pairs.{pair}
 use Rattle.words.proofs.Sets.{bit-single}
 use Rattle.words.proofs.Pairs.{pair-lt, pair-first, pair-second, pair-of, first-lt, second-lt, bit-product-pair}
 use Rattle.level.specs.Level.{low}
-use Rattle.part.specs.Record.{observer, states, start, events, class, identifier, event-kind, level, row}
+use Rattle.part.specs.Record.{observer, states, start, events, column, class, identifier, event-kind, level, row}
 use Rattle.part.specs.Rejections.{Accepted}
-use Rattle.part.specs.Layout.{fields-of}
-use Rattle.part.specs.Machine.{State, place, event-of, Leads, machine, observation}
+use Rattle.part.specs.Frame.{fields-of}
+use Rattle.part.specs.Machine.{State, machine, observation}
+use Rattle.part.specs.Events.{place, event-of, Leads}
 use Rattle.part.proofs.Ranges.{ranges, class-counted}
 use Rattle.part.proofs.Places.{places, event-none, event-at}
 use Rattle.part.proofs.LayoutLaws.{Agree}
 use Rattle.part.proofs.ReadBack.{read-back}
 use Rattle.part.proofs.Proper.{proper-fits}
-use Rattle.restrictive.proofs.Truth.{eqb-iff, and-iff}
+use Rattle.bounded.proofs.Truth.{eqb-iff, and-iff}
 use Rattle.composite.specs.Meeting.{kind-byte, level-byte}
 use Rattle.composite.specs.Joined.{merged, classes, after, joined-event, joined-row, joined-fields, joined}
 use Rattle.composite.specs.Theorems.{Joins, JoinedHookup}
-use Rattle.composite.proofs.Merging.{merged-at, merged-has}
+use Rattle.composite.proofs.MergeLaws.{merged-at, merged-has}
 use Rattle.composite.proofs.Meetings.{kind-back, level-back, opposite-clear, combined-combines, combined-absent}
 use Rattle.composite.proofs.JoinedClasses.{joined-class-pair}
 use Rattle.composite.proofs.JoinedProper.{after-none, after-some, joined-proper, joined-accepted}
@@ -60,7 +61,8 @@ absent-place b e z = go (place b e) refl
 module _ (b : List ℕ) (q : Accepted b) (e : ℕ) where
   move-after : {s t : State b} → Move (machine b q) e s t → T (bit (after b e (s .0)) (t .0))
   move-after (steps {s = s} {t = t} l) = rw (after-some b e (s .0) (l .at) (l .placed)) (l .set)
-  move-after (stays {s = s} z) = rw (after-none b e (s .0) (absent-place b e z), bit-single (s .0) (s .0)) (eqb-iff (s .0) (s .0) .1 refl)
+  move-after (stays {s = s} z) =
+      rw (after-none b e (s .0) (absent-place b e z), bit-single (s .0) (s .0)) (eqb-iff (s .0) (s .0) .1 refl)
 
   -- The states after an event are those that the machine may move to.
   pub after-move : (s t : State b) → T (bit (after b e (s .0)) (t .0)) ↔ Move (machine b q) e s t
@@ -68,7 +70,8 @@ module _ (b : List ℕ) (q : Accepted b) (e : ℕ) where
     where
       go : (o : Option ℕ) → place b e ≡ o → T (bit (after b e (s .0)) (t .0)) → Move (machine b q) e s t
       go none p m =
-          let same = eqb-iff (s .0) (t .0) .0 (subst T (bit-single (s .0) (t .0)) (rw (after-none b e (s .0) p) at m)) in
+          let same =
+          eqb-iff (s .0) (t .0) .0 (subst T (bit-single (s .0) (t .0)) (rw (after-none b e (s .0) p) at m)) in
           subst (Move (machine b q) e s) (same-state b same) (stays (event-none b e p))
       go (some i) p m = steps (record { at = i; placed = p; set = rw (after-some b e (s .0) i p) at m })
 
@@ -82,7 +85,7 @@ module _ (a b : List ℕ) (h : Bytes a) (k : Bytes b) (p : Accepted a) (q : Acce
 
   pub joined-states : states (joined a b) ≡ states a * states b
   unfolding joined-fields
-  joined-states = joined-back .counts
+  joined-states = joined-back .tables .counts
 
   joined-observer : observer (joined a b) ≡ observer a
   unfolding joined-fields
@@ -90,16 +93,17 @@ module _ (a b : List ℕ) (h : Bytes a) (k : Bytes b) (p : Accepted a) (q : Acce
 
   joined-start : start (joined a b) ≡ pair (states b) (start a) (start b)
   unfolding joined-fields
-  joined-start = joined-back .starts
+  joined-start = joined-back .tables .starts
 
   joined-events : events (joined a b) ≡ length (merged a b)
   unfolding joined-fields
-  joined-events = joined-back .event-counts
+  joined-events = joined-back .tables .event-counts
 
   pub joined-class : (x y : ℕ) → x < states a → y < states b
       → class (joined a b) (pair (states b) x y) ≡ pair (classes b) (class a x) (class b y)
   unfolding joined-fields
-  joined-class x y l m = joined-back .classes (pair (states b) x y) (pair-lt (states a) (states b) x y l m) ∙ joined-class-pair a b x y m
+  joined-class x y l m =
+      joined-back .classes (pair (states b) x y) (pair-lt (states a) (states b) x y l m) ∙ joined-class-pair a b x y m
 
   -- ---- its events
 
@@ -112,19 +116,21 @@ module _ (a b : List ℕ) (h : Bytes a) (k : Bytes b) (p : Accepted a) (q : Acce
   joined-stands e i w =
       let s = places (joined a b) accepted .stands e i w in
       let l : i < length (merged a b) = omega (arith, joined-events) in
-      (l, sym (joined-back .identifiers i (rw joined-events at (s .0))) ∙ s .1)
+      (l, sym (joined-back .tables .identifiers i (rw joined-events at (s .0))) ∙ s .1)
 
   joined-found : (e i : ℕ) → i < length (merged a b) → getD (merged a b) i 0 ≡ e → place (joined a b) e ≡ some i
   unfolding joined-fields
   joined-found e i l is =
-      let there : identifier (joined a b) i ≡ e = joined-back .identifiers i l ∙ is in
-      subst (λ (d : ℕ). place (joined a b) d ≡ some i) there (places (joined a b) accepted .found i (rw joined-events l))
+      let there : identifier (joined a b) i ≡ e = joined-back .tables .identifiers i l ∙ is in
+      subst (λ (d : ℕ). place (joined a b) d ≡ some i) there
+      (places (joined a b) accepted .found i (rw joined-events l))
 
   pub joined-event-of : (e : ℕ) → event-of (joined a b) e ≡ joined-event a b e
   unfolding joined-fields joined-event
   joined-event-of e = go (joined-event a b e) refl
     where
-      none-there : (o : Option ℕ) → place (joined a b) e ≡ o → joined-event a b e ≡ absent → event-of (joined a b) e ≡ absent
+      none-there : (o : Option ℕ) → place (joined a b) e ≡ o → joined-event a b e ≡ absent
+          → event-of (joined a b) e ≡ absent
       none-there none w z = event-none (joined a b) e w
       none-there (some i) w z =
           let (l, is) = joined-stands e i w in
@@ -134,27 +140,33 @@ module _ (a b : List ℕ) (h : Bytes a) (k : Bytes b) (p : Accepted a) (q : Acce
       go absent z = none-there (place (joined a b) e) refl z
       go (event c l) z =
           let there-is : (event-of a e ≡ absent) × (event-of b e ≡ absent) → ⊥ =
-          λ w. let n = combined-absent (event-of a e) (event-of b e) .1 w in let u : _≡_ {A = ℕ} 0 1 = cc in omega arith in
+          λ w.
+          let n = combined-absent (event-of a e) (event-of b e) .1 w in let u : _≡_ {A = ℕ} 0 1 = cc in omega arith in
           let (i, m, is) = merged-has a b p q e there-is in
-          let kind-is : event-kind (joined a b) i ≡ kind-byte (joined-event a b e) = rw is at (joined-back .event-kinds i m) in
-          let level-is : level (joined a b) i ≡ level-byte (joined-event a b e) = rw is at (joined-back .levels i m) in
-          event-at (joined a b) e i (joined-found e i m is) ∙ rw (kind-is, level-is, z, kind-back c l, level-back c l) refl
+          let kind-is : event-kind (joined a b) i ≡ kind-byte (joined-event a b e) =
+          rw is at (joined-back .tables .event-kinds i m) in
+          let level-is : level (joined a b) i ≡ level-byte (joined-event a b e) =
+          rw is at (joined-back .tables .levels i m) in
+          event-at (joined a b) e i (joined-found e i m is) ∙ rw (kind-is, level-is, z, kind-back c l, level-back c l)
 
   -- ---- its steps
 
   -- The row of e at a pair has those pairs whose states the two parts may be in after e.
   joined-row-pair : (e i x y x' y' : ℕ) → i < length (merged a b) → getD (merged a b) i 0 ≡ e
       → x < states a → y < states b → x' < states a → y' < states b
-      → bit (row (joined a b) i (pair (states b) x y)) (pair (states b) x' y') ≡ (bit (after a e x) x' && bit (after b e y) y')
+      → bit (row (joined a b) i (pair (states b) x y)) (pair (states b) x' y')
+      ≡ (bit (after a e x) x' && bit (after b e y) y')
   unfolding joined-fields joined-row
   joined-row-pair e i x y x' y' l is hx hy hx' hy' =
       let n = states b in
-      let reads = joined-back .rows i (pair n x y) l (pair-lt (states a) n x y hx hy) in
-      rw (reads, is, pair-first n x y hy, pair-second n x y hy) (bit-product-pair (states a) n (after a e x) (after b e y) x' y' hx' hy')
+      let reads = joined-back .tables .rows i (pair n x y) l (pair-lt (states a) n x y hx hy) in
+      rw (reads, is, pair-first n x y hy, pair-second n x y hy)
+      (bit-product-pair (states a) n (after a e x) (after b e y) x' y' hx' hy')
 
   joined-moves : (e : ℕ) (s s' : State a) (t t' : State b)
       → Leads (joined a b) e (pair (states b) (s .0) (t .0)) (pair (states b) (s' .0) (t' .0))
-      ↔ (((event-of a e ≡ absent) × (event-of b e ≡ absent) → ⊥) × Move (machine a p) e s s' × Move (machine b q) e t t')
+      ↔ (((event-of a e ≡ absent) × (event-of b e ≡ absent) → ⊥) × Move (machine a p) e s s'
+      × Move (machine b q) e t t')
   joined-moves e s s' t t' = (
     λ l.
         let (inside, is) = joined-stands e (l .at) (l .placed) in
@@ -170,12 +182,14 @@ module _ (a b : List ℕ) (h : Bytes a) (k : Bytes b) (p : Accepted a) (q : Acce
           ↔ (Move (machine a p) e s s' × Move (machine b q) e t t')
       tests i l is =
           rw (joined-row-pair e i (s .0) (t .0) (s' .0) (t' .0) l is (s .1) (t .1) (s' .1) (t' .1))
-          (and-iff (bit (after a e (s .0)) (s' .0)) (bit (after b e (t .0)) (t' .0)) (after-move a p e s s') (after-move b q e t t'))
+          (and-iff (bit (after a e (s .0)) (s' .0)) (bit (after b e (t .0)) (t' .0)) (after-move a p e s s')
+          (after-move b q e t t'))
 
   -- ---- its states
 
   abbrev pairs : State a → State b → State (joined a b)
-  pairs s t = (pair (states b) (s .0) (t .0), rw joined-states (pair-lt (states a) (states b) (s .0) (t .0) (s .1) (t .1)))
+  pairs s t =
+      (pair (states b) (s .0) (t .0), rw joined-states (pair-lt (states a) (states b) (s .0) (t .0) (s .1) (t .1)))
 
   hookup : (r : Accepted (joined a b)) → IsHookup (machine a p) (machine b q) (machine (joined a b) r) pairs
   unfolding joined-event
@@ -185,7 +199,8 @@ module _ (a b : List ℕ) (h : Bytes a) (k : Bytes b) (p : Accepted a) (q : Acce
         combined = λ e.
             let x = event-of a e in
             let y = event-of b e in
-            subst (Combines x y) (sym (joined-event-of e)) (combined-combines x y (opposite-clear x y (j .joinable .fits e)));
+            subst (Combines x y) (sym (joined-event-of e))
+            (combined-combines x y (opposite-clear x y (j .joinable .fits e)));
         moves = joined-moves;
         starts = same-state (joined a b) joined-start;
         paired = λ s.
@@ -194,7 +209,8 @@ module _ (a b : List ℕ) (h : Bytes a) (k : Bytes b) (p : Accepted a) (q : Acce
             let second : State b = (s .0 % n, second-lt n (s .0) (ranges b q .one-state)) in
             (first, second, same-state (joined a b) (sym (pair-of n (s .0))));
         apart = λ s s' t t' e.
-            let w = pair-same n (s .0) (s' .0) (t .0) (t' .0) (t .1) (t' .1) (ap (λ (u : State (joined a b)). u .0) e) in
+            let w =
+            pair-same n (s .0) (s' .0) (t .0) (t' .0) (t .1) (t' .1) (ap (λ (u : State (joined a b)). u .0) e) in
             (same-state a (w .0), same-state b (w .1));
       }
 
@@ -208,7 +224,8 @@ module _ (a b : List ℕ) (h : Bytes a) (k : Bytes b) (p : Accepted a) (q : Acce
         let there = joined-class (s' .0) (t' .0) (s' .1) (t' .1) in (
           λ e.
               pair-same (classes b) (class a (s .0)) (class a (s' .0)) (class b (t .0)) (class b (t' .0))
-              (class-counted b (t .0) (states b) (t .1)) (class-counted b (t' .0) (states b) (t' .1)) (sym here ∙ e ∙ there),
+              (class-counted (column b) (t .0) (states b) (t .1)) (class-counted (column b) (t' .0) (states b) (t' .1))
+              (sym here ∙ e ∙ there),
           λ w. here ∙ rw (w .0, w .1) (sym there),
         );
   }

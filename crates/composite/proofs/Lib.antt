@@ -1,9 +1,9 @@
-pub mod Merging
+pub mod MergeLaws
 pub mod Meetings
 pub mod Joinable
 pub mod JoinedClasses
 pub mod JoinedProper
 pub mod JoinedMachine
-pub mod Walking
+pub mod EntryWalk
 pub mod Obstacles
 pub mod Theorems

@@ -1,4 +1,4 @@
--- The hookup theorem over bytes. Assumes nothing.
+-- The hookup theorem over bytes.
 use Rattle.machine.proofs.Hookup.{hookup-restrictive}
 use Rattle.restrictive.proofs.Theorems.{passes-exactly}
 use Rattle.composite.specs.Joined.{joined}

@@ -1,10 +1,7 @@
 -- What the answers of the code mean: document 01's numbers and values for each case.
-use mathlib.Core.Option.{Option, none, some}
 use Rattle.restrictive.specs.Answers as record-answers
 use Rattle.composite.specs.declared.answer.Obstacle.{Obstacle}
 use Rattle.composite.specs.declared.answer.Obstacle.the-variants.{ObserversDiffer, Clash, TooLarge}
-use Rattle.composite.specs.declared.answer.Fit as fit
-use Rattle.composite.specs.declared.answer.Fit.the-variants.{Joins, Stopped}
 use Rattle.composite.specs.declared.answer.Side.{Side}
 use Rattle.composite.specs.declared.answer.Side.the-variants.{First, Second}
 use Rattle.composite.specs.declared.answer.Joining as call
@@ -17,17 +14,13 @@ obstacle-of ObserversDiffer = plain.refusal 9
 obstacle-of (Clash e) = plain.clash e
 obstacle-of TooLarge = plain.refusal 11
 
-unfoldable pub stops : fit.Fit → Option plain.Obstacle
-stops Joins = none
-stops (Stopped o) = some (obstacle-of o)
-
 unfoldable pub side-of : Side → plain.Side
 side-of First = plain.first-record
 side-of Second = plain.second-record
 
 -- The joined record's length; a record's own refusal or break with its side; an obstacle; 15.
-unfoldable pub means : call.Joining → plain.Joining
-means (joining.Joined n) = plain.length-is n
-means (joining.Unfit side v) = plain.unfit (side-of side) (record-answers.means v)
-means (joining.Stopped o) = plain.stopped (obstacle-of o)
-means joining.NoRoom = plain.stopped (plain.refusal 15)
+unfoldable pub joining-of : call.Joining → plain.Joining
+joining-of (joining.Joined n) = plain.length-is n
+joining-of (joining.Unfit side v) = plain.unfit (side-of side) (record-answers.verdict-of v)
+joining-of (joining.Stopped o) = plain.stopped (obstacle-of o)
+joining-of joining.NoRoom = plain.stopped (plain.refusal 15)

@@ -7,9 +7,9 @@ use Rattle.bounded.specs.Search.{first, or-else}
 use Rattle.words.specs.Sets.{bit, single, mask}
 use Rattle.words.specs.Pairs.{pair, product}
 use Rattle.words.specs.LittleEndian.{number, digits, each}
-use Rattle.part.specs.Record.{observer, states, start, events, class, classes-below, entry-at, identifier, event-kind, level, row-at, row}
-use Rattle.part.specs.Layout.{body, size, layout}
-use Rattle.part.specs.Machine.{kind-of, at-place, place, event-of}
+use Rattle.part.specs.Record.{observer, states, start, events, column, classes-below, entry-at, identifier, event-kind, level, row-at, row}
+use Rattle.part.specs.Layout.{body, layout}
+use Rattle.part.specs.Events.{kind-of, at-place, place, event-of}
 use Rattle.restrictive.specs.Judged.{judged, same}
 use Rattle.composite.specs.Merge.{beside, merge}
 use Rattle.composite.specs.Meeting.{meets, clashes, combined, kind-byte, level-byte}
@@ -18,7 +18,7 @@ use Rattle.composite.specs.Joining.{Obstacle, refusal, clash, when, obse
 
 -- The joined record, computed.
 unfoldable pub hooked : List ℕ → List ℕ → List ℕ
-unfolding joined joined-fields joined-row joined-event combined kind-byte level-byte after classes merged identifiers merge beside layout body size product pair mask bit single place at-place event-of kind-of first or-else observer states start events class classes-below entry-at identifier event-kind level row-at row number digits each
+unfolding joined joined-fields joined-row joined-event combined kind-byte level-byte after classes merged identifiers merge beside layout body product pair mask bit single place at-place event-of kind-of first or-else observer states start events column classes-below entry-at identifier event-kind level row-at row number digits each
 hooked a b = joined a b
 
 -- The answer, computed.

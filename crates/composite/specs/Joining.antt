@@ -7,9 +7,9 @@ use lib.Dec.{ltb, eqb}
 use lib.ListN.{length}
 use Rattle.bounded.specs.Search.{first, or-else}
 use Rattle.words.specs.Laid.{over}
-use Rattle.part.specs.Limits.{max-states, max-events}
+use Rattle.part.specs.Format.{max-states, max-events}
 use Rattle.part.specs.Record.{observer, states, events, identifier}
-use Rattle.part.specs.Machine.{event-of}
+use Rattle.part.specs.Events.{event-of}
 use Rattle.restrictive.specs.Verdict.{Verdict, pass, refused, breaks, verdict}
 use Rattle.composite.specs.Meeting.{clashes}
 use Rattle.composite.specs.Joined.{merged, joined}

@@ -1,15 +1,16 @@
 // The obstacles 9, 10 and 11 between two passing parts, in order (specs/Joining.antt).
 ghost use mathlib.Core.Path.{_≡_};
 ghost use Prim.Native.Nat.{_<_, _≤_};
-ghost use Rattle.part.specs.Limits.{max-event-kind};
+ghost use Rattle.part.specs.Format.{max-event-kind};
 ghost use Rattle.part.specs.Record.{events, identifier};
 ghost use Rattle.part.specs.Rejections.{Accepted};
-ghost use Rattle.part.specs.Machine.{kind-of, place-or-end, event-of};
+ghost use Rattle.part.specs.Frame.{place-or-end};
+ghost use Rattle.part.specs.Events.{kind-of, event-of};
 ghost use lib.ListN.{length};
 ghost use Rattle.composite.specs.Joined.{merged};
 ghost use Rattle.composite.specs.Meeting.{clashes};
 ghost use Rattle.composite.specs.Joining.{first-clash, too-large, obstacle};
-ghost use Rattle.composite.specs.Answers.{stops};
+ghost use Rattle.composite.specs.Walk.{fit-of};
 ghost use Rattle.composite.specs.Walk.{meeting};
 use crate::answer::Fit;
 use crate::answer::Obstacle;
@@ -54,7 +55,7 @@ fn clash_at(a: &[u8], b: &[u8], i: usize, j: usize) -> bool
 fn first_clash(a: &[u8], b: &[u8]) -> Fit
     requires { ⌜ Accepted (now a) ⌝ }
     requires { ⌜ Accepted (now b) ⌝ }
-    ensures { λ r. ⌜ stops r ≡ first-clash (now (a .entry)) (now (b .entry)) ⌝ }
+    ensures { λ r. ⌜ fit-of r ≡ first-clash (now (a .entry)) (now (b .entry)) ⌝ }
 {
     let m = Part::events(a);
     let mut near = 0;
@@ -90,7 +91,7 @@ pub fn obstacle(a: &[u8], b: &[u8], count: usize) -> Fit
     requires { ⌜ Accepted (now a) ⌝ }
     requires { ⌜ Accepted (now b) ⌝ }
     requires { ⌜ count ≡ length (merged (now a) (now b)) ⌝ }
-    ensures { λ r. ⌜ stops r ≡ obstacle (now (a .entry)) (now (b .entry)) ⌝ }
+    ensures { λ r. ⌜ fit-of r ≡ obstacle (now (a .entry)) (now (b .entry)) ⌝ }
 {
     if Part::observer(a) != Part::observer(b) {
         return Fit::Stopped(Obstacle::ObserversDiffer);

@@ -3,7 +3,7 @@ ghost use mathlib.Core.Path.{_≡_};
 ghost use Prim.Native.Nat.{_≤_};
 ghost use lib.ListN.{length};
 ghost use Rattle.restrictive.specs.Verdict.{Violation, breaks, verdict};
-ghost use Rattle.restrictive.specs.Answers.{means};
+ghost use Rattle.restrictive.specs.Answers.{verdict-of};
 ghost use Rattle.composite.specs.Joined.{joined};
 ghost use Rattle.composite.specs.Joining.{joining, buffer-after};
 ghost use Rattle.composite.specs.Answers.{side-of, obstacle-of};
@@ -17,8 +17,8 @@ use restrictive::call::check;
 
 // The number of a verdict. There are five rules.
 fn check_number(v: Verdict) -> u32
-    requires { ⌜ ((w : Violation) → means v ≡ breaks w → w .rule ≤ 5) ⌝ }
-    ensures { λ k. ⌜ k ≡ check-number (means v) ⌝ }
+    requires { ⌜ ((w : Violation) → verdict-of v ≡ breaks w → w .rule ≤ 5) ⌝ }
+    ensures { λ k. ⌜ k ≡ check-number (verdict-of v) ⌝ }
     ensures { λ k. ⌜ k ≤ 105 ⌝ }
 {
     match v {

@@ -1,5 +1,5 @@
-pub mod Turning
-pub mod Rowing
-pub mod Entering
-pub mod Writing
-pub mod Answering
+pub mod PieceTurn
+pub mod RowLaws
+pub mod HeadEntries
+pub mod PieceOrder
+pub mod JoinAnswers

@@ -3,7 +3,7 @@ ghost use mathlib.Core.Path.{_≡_};
 ghost use lib.ListN.{length};
 ghost use Rattle.composite.specs.Joined.{joined};
 ghost use Rattle.composite.specs.Joining.{joining, buffer-after};
-ghost use Rattle.composite.specs.Answers.{means};
+ghost use Rattle.composite.specs.Answers.{joining-of};
 use crate::writer::joined_length;
 use crate::writer::write;
 use composite::answer::Fit;
@@ -16,8 +16,8 @@ use restrictive::call::check;
 
 // The joined record of a and b at the start of out, whose later bytes stay; or why there is none, and then out stays as it was.
 pub fn join<'a>(a: &'a [u8], b: &'a [u8], out: &mut [u8]) -> Joining
-    ensures { λ r. ⌜ means r ≡ joining (now (a .entry)) (now (b .entry)) (length (now (out .entry))) ⌝ }
-    ensures { λ r. ⌜ now (out .exit) ≡ buffer-after (means r) (joined (now (a .entry)) (now (b .entry))) (now (out .entry)) ⌝ }
+    ensures { λ r. ⌜ joining-of r ≡ joining (now (a .entry)) (now (b .entry)) (length (now (out .entry))) ⌝ }
+    ensures { λ r. ⌜ now (out .exit) ≡ buffer-after (joining-of r) (joined (now (a .entry)) (now (b .entry))) (now (out .entry)) ⌝ }
 {
     let first = check(a);
     match first {

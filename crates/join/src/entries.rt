@@ -3,7 +3,7 @@ ghost use mathlib.Core.Path.{_≡_};
 ghost use Prim.Native.Nat.{_+_, _*_, _≤_};
 ghost use lib.ListN.{length};
 ghost use Rattle.words.specs.Laid.{over};
-ghost use Rattle.part.specs.Machine.{place-or-end};
+ghost use Rattle.part.specs.Frame.{place-or-end};
 ghost use Rattle.composite.specs.Meeting.{kind-byte, level-byte};
 ghost use Rattle.composite.specs.Joined.{joined-event};
 ghost use Rattle.join.specs.Pieces.{Joint, Lists, Placed, entry-bytes, all-entries};

@@ -1,4 +1,4 @@
--- The order on levels: the test decides it, and comparing the compartments as sets is the test. Assumes nothing.
+-- The order on levels: the test decides it, and comparing the compartments as sets is the test.
 use Prim.Native.Nat.{ℕ, _^_, _≤_, _<_}
 use mathlib.Core.Path.{_≡_, refl, sym, ap, _∙_}
 use mathlib.Core.Bool.{Bool, true, false, not, _||_, _&&_}
@@ -33,11 +33,14 @@ at-or-below-iff a b = (to, from)
         let e = passed _ t in
         record {
           ranks = leb-true _ _ (and-left (leb (rank a) (rank b)) (all 6 each-in) e);
-          within = λ c h. imp (bit a c) (bit b c) (all-at each-in 6 (and-right (leb (rank a) (rank b)) (all 6 each-in) e) c h);
+          within = λ c h. imp (bit a c) (bit b c)
+              (all-at each-in 6 (and-right (leb (rank a) (rank b)) (all 6 each-in) e) c h);
         }
 
     from : AtOrBelow a b → T (at-or-below a b)
-    from w = passes (ap (λ (x : Bool). x && all 6 each-in) (le-leb _ _ (w .ranks)) ∙ all-intro each-in 6 (λ c h. imp-intro (bit a c) (bit b c) (w .within c h)))
+    from w = passes
+        (ap (λ (x : Bool). x && all 6 each-in) (le-leb _ _ (w .ranks))
+        ∙ all-intro each-in 6 (λ c h. imp-intro (bit a c) (bit b c) (w .within c h)))
 
 -- ---- the comparison that the code makes: the ranks, and whether the common compartments are all of a's
 
@@ -68,15 +71,18 @@ module _ (a b : ℕ) where
   unfolding at-or-below
   rank-above h = rw (lt-leb (rank a) (rank b) h)
 
-  pub all-common : rank a ≤ rank b → intersection (compartments a) (compartments b) ≡ compartments a → at-or-below a b ≡ true
+  pub all-common : rank a ≤ rank b → intersection (compartments a) (compartments b) ≡ compartments a
+      → at-or-below a b ≡ true
   all-common r e =
       passed (at-or-below a b) (at-or-below-iff a b .1 (record {
         ranks = r;
-        within = λ c h. both-is-left (bit a c) (bit b c) (sym (shared a b c h) ∙ ap (λ (x : ℕ). bit x c) e ∙ inside a c h);
+        within = λ c h. both-is-left (bit a c) (bit b c)
+            (sym (shared a b c h) ∙ ap (λ (x : ℕ). bit x c) e ∙ inside a c h);
       }))
 
   pub some-missing : (intersection (compartments a) (compartments b) ≡ compartments a → ⊥) → at-or-below a b ≡ false
   some-missing n =
       is-false (at-or-below a b) (λ t.
       n (same-members 6 _ _ (intersection-lt 6 _ _ (small a) (small b)) (small a) (λ c h.
-      shared a b c h ∙ left-is-both (bit a c) (bit b c) (at-or-below-iff a b .0 (passes t) .within c h) ∙ sym (inside a c h))))
+      shared a b c h ∙ left-is-both (bit a c) (bit b c) (at-or-below-iff a b .0 (passes t) .within c h)
+      ∙ sym (inside a c h))))

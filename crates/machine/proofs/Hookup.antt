@@ -1,6 +1,7 @@
--- A hookup of restrictive machines is restrictive. At every event one component leads: it has the composite's event and the other lacks it, or
--- the event is its output and the other's input. The leader answers by its own rule; the other moves along, in its class at a high event
--- and as it would have moved at a low one. Silent steps of one component are silent steps of the composite. Assumes nothing.
+-- A hookup of restrictive machines is restrictive. At every event one component leads: it has the composite's event and
+-- the other lacks it, or the event is its output and the other's input. The leader answers by its own rule; the other
+-- moves along, in its class at a high event and as it would have moved at a low one. Silent steps of one component are
+-- silent steps of the composite.
 use Prim.Native.Nat.{ℕ}
 use mathlib.Core.Path.{_≡_, refl, sym, _∙_, subst}
 use mathlib.Core.Bool.{Bool, true, false}
@@ -50,7 +51,8 @@ combines-swap left-sends = right-sends
 combines-swap right-sends = left-sends
 
 module _ {SA SB SN : Type 0} {pair : SA → SB → SN} where
-  pub hookup-swap : {A : Machine SA} {B : Machine SB} {N : Machine SN} → IsHookup A B N pair → IsHookup B A N (λ b a. pair a b)
+  pub hookup-swap : {A : Machine SA} {B : Machine SB} {N : Machine SN} → IsHookup A B N pair
+      → IsHookup B A N (λ b a. pair a b)
   hookup-swap H =
       record {
         combined = λ e. combines-swap (H .combined e);
@@ -69,7 +71,9 @@ module _ {SA SB SN : Type 0} {pair : SA → SB → SN} where
       record {
         left-low = P .right-low;
         right-low = P .left-low;
-        classes = λ b b' a a'. (λ q. let w = P .classes a a' b b' .0 q in (w .1, w .0), λ w. P .classes a a' b b' .1 (w .1, w .0));
+        classes =
+            λ b b' a a'.
+            (λ q. let w = P .classes a a' b b' .0 q in (w .1, w .0), λ w. P .classes a a' b b' .1 (w .1, w .0));
       }
 
 -- ---- the roles of an event in the leading component, in the other one and in the composite
@@ -88,22 +92,24 @@ shared false = high-shared
 abbrev Either-led : Role → Role → Role → Type 0
 Either-led p q r = Led p q r ⊎ Led q p r
 
-combines-led : (is-low : ℕ → Bool) {x y z : Event} → Combines x y z → Either-led (role-of is-low x) (role-of is-low y) (role-of is-low z)
+combines-led : (is-low : ℕ → Bool) {x y z : Event} → Combines x y z
+    → Either-led (role-of is-low x) (role-of is-low y) (role-of is-low z)
 unfolding role-of
 combines-led is-low neither = inl alone
 combines-led is-low left-only = inl alone
 combines-led is-low right-only = inr alone
-combines-led is-low (left-sends {l}) = inl (shared (is-low l))
-combines-led is-low (right-sends {l}) = inr (shared (is-low l))
+combines-led is-low (left-sends {l}) = inl (shared _)
+combines-led is-low (right-sends {l}) = inr (shared _)
 
 -- The event is missing, or its role passes the test.
 abbrev Lacks-or : (Role → Bool) → Role → Type 0
 Lacks-or f r = (r ≡ missing) ⊎ T (f r)
 
--- Where the composite's role passes a test f, so does the leader's, and the other component lacks the event or passes a test g, provided
--- that this holds of shared events.
+-- Where the composite's role passes a test f, so does the leader's, and the other component lacks the event or passes a
+-- test g, provided that this holds of shared events.
 leads : (f g : Role → Bool) → (T (f (low internal)) → T (f (low output)) × T (g (low input)))
-    → (T (f (high internal)) → T (f (high output)) × T (g (high input))) → {p q r : Role} → Led p q r → T (f r) → T (f p) × Lacks-or g q
+    → (T (f (high internal)) → T (f (high output)) × T (g (high input))) → {p q r : Role} → Led p q r → T (f r)
+    → T (f p) × Lacks-or g q
 leads f g n m alone h = (h, inl refl)
 leads f g n m low-shared h = (n h .0, inr (n h .1))
 leads f g n m high-shared h = (m h .0, inr (m h .1))
@@ -134,7 +140,7 @@ module _ {S : Type 0} (M : Machine S) (O : Observation S) (R : Restrictive M O) 
   high-keeps {s} {t} (inr h) (steps p) = R rule-2 e s t s (h, p)
 
   high-move : Lacks-or is-high-input (role M O e) → (s : S) → (t : S) × Move M e s t × (O .class t ≡ O .class s)
-  high-move (inl z) s = (s, stays (missing-absent (O .low) (M .events e) z), refl)
+  high-move (inl z) s = (s, stays (missing-absent _ (M .events e) z), refl)
   high-move (inr h) s =
       let w = R rule-1 e s s s (test-as is-input (role-high-input (role M O e) h) tt) in
       (w .0, steps (w .1), R rule-2 e s (w .0) s (h, w .1))
@@ -147,17 +153,20 @@ module _ {S : Type 0} (M : Machine S) (O : Observation S) (R : Restrictive M O) 
 
 -- ---- the composite
 
-module _ {SA SB SN : Type 0} {A : Machine SA} {B : Machine SB} {N : Machine SN} {OA : Observation SA} {OB : Observation SB} {ON : Observation SN}
-    {pair : SA → SB → SN} (H : IsHookup A B N pair) (P : IsProduct OA OB ON pair) (RA : Restrictive A OA) (RB : Restrictive B OB) where
+module _ {SA SB SN : Type 0} {A : Machine SA} {B : Machine SB} {N : Machine SN} {OA : Observation SA}
+    {OB : Observation SB} {ON : Observation SN}
+    {pair : SA → SB → SN} (H : IsHookup A B N pair) (P : IsProduct OA OB ON pair) (RA : Restrictive A OA)
+    (RB : Restrictive B OB) where
   either-led : (e : ℕ) → Either-led (role A OA e) (role B OB e) (role N ON e)
-  either-led e = rw (P .left-low, P .right-low) (combines-led (ON .low) (H .combined e))
+  either-led e = rw (P .left-low, P .right-low) (combines-led _ (H .combined e))
 
   -- A step of A, with B's move, is a step of N.
   led-step : {e : ℕ} {a a' : SA} {b b' : SB} → A .step e a a' → Move B e b b' → N .step e (pair a b) (pair a' b')
   led-step {e} {a} {a'} {b} {b'} p m = H .moves e a a' b b' .1 (λ z. A .present e a a' p (z .0), steps p, m)
 
   -- Silent steps of A are silent steps of N, in which B keeps its class.
-  lift : {a a' : SA} → Silent A OA a a' → (b : SB) → (b' : SB) × Silent N ON (pair a b) (pair a' b') × (OB .class b' ≡ OB .class b)
+  lift : {a a' : SA} → Silent A OA a a' → (b : SB)
+      → (b' : SB) × Silent N ON (pair a b) (pair a' b') × (OB .class b' ≡ OB .class b)
   lift still b = (b, still, refl)
   lift (then e h p rest) b =
       let i = silent-led (either-led e) h in
@@ -190,8 +199,12 @@ module _ {SA SB SN : Type 0} {A : Machine SA} {B : Machine SB} {N : Machine SN} 
       let m = H .moves e a a' b b' .0 (h .1) in
       let q = P .classes c a d b .0 (h .2) in
       let w = RA rule-4 e a a' c (i .0, moved A OA e is-silent (λ z. z) (i .0) (m .1), q .0) in
-      let x = lift (w .1) d in
-      (pair (w .0) (x .0), x .1, P .classes (w .0) a' (x .0) b' .1 (w .2, x .2 ∙ q .1 ∙ sym (high-keeps B OB RB e (i .1) (m .2))))
+      let x = lift (w .1) d in (
+        pair (w .0) (x .0),
+        x .1,
+        P .classes (w .0) a' (x .0) b' .1
+            (w .2, x .2 ∙ q .1 ∙ sym (high-keeps B OB RB e (i .1) (m .2))),
+      )
   led e l rule-5 a a' c b b' d h =
       let i = leads is-low-action is-low-input (λ z. (tt, tt)) (λ z. absurd z) l (h .0) in
       let m = H .moves e a a' b b' .0 (h .1) in

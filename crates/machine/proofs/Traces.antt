@@ -1,5 +1,5 @@
--- The laws of lows and gaps: what can be shown from a state, as the low events and the gaps of events that follow one another from it,
--- and what a step in front adds to that, by its role. Assumes nothing.
+-- The laws of lows and gaps: what can be shown from a state, as the low events and the gaps of events that follow one
+-- another from it, and what a step in front adds to that, by its role.
 use Prim.Native.Nat.{ℕ}
 use mathlib.Core.Path.{_≡_, refl, sym, ap, subst}
 use mathlib.Core.Bool.{Bool, true, false}
@@ -36,7 +36,7 @@ missing-absent is-low (event k l) q = go (is-low l) q
 module _ {S : Type 0} (M : Machine S) (O : Observation S) where
   -- An event that leads somewhere is not missing.
   pub not-missing : {e : ℕ} {s t : S} → M .step e s t → role M O e ≡ missing → ⊥
-  not-missing {e} {s} {t} p q = M .present e s t p (missing-absent (O .low) (M .events e) q)
+  not-missing {e} {s} {t} p q = M .present e s t p (missing-absent _ (M .events e) q)
 
   -- ---- what can be shown from a state
 
@@ -63,18 +63,21 @@ module _ {S : Type 0} (M : Machine S) (O : Observation S) where
         its-gaps = ap (gap-first (role M O e) e) (w .its-gaps);
       }
 
-  pub shows-high-input : {e : ℕ} {s t : S} {ls g : List ℕ} {gs : List (List ℕ)} → T (is-high-input (role M O e)) → M .step e s t
+  pub shows-high-input : {e : ℕ} {s t : S} {ls g : List ℕ} {gs : List (List ℕ)} → T (is-high-input (role M O e))
+      → M .step e s t
       → Shows t ls (g ∷ gs) → Shows s ls ((e ∷ g) ∷ gs)
   unfolding low-first gap-first push
   shows-high-input {e} h p w = rw (role-high-input (role M O e) h) at (shows-step p w)
 
-  pub shows-low : {e : ℕ} {s t : S} {ls : List ℕ} {gs : List (List ℕ)} (k : Kind) → role M O e ≡ low k → M .step e s t → Shows t ls gs
+  pub shows-low : {e : ℕ} {s t : S} {ls : List ℕ} {gs : List (List ℕ)} (k : Kind) → role M O e ≡ low k → M .step e s t
+      → Shows t ls gs
       → Shows s (e ∷ ls) ([] ∷ gs)
   unfolding low-first gap-first
   shows-low k q p w = rw q at (shows-step p w)
 
   -- Silent events in front are passed over.
-  passed-over : (r : Role) (e : ℕ) {s : S} {ls : List ℕ} {gs : List (List ℕ)} → T (is-silent r) → Shows s (low-first r e ls) (gap-first r e gs)
+  passed-over : (r : Role) (e : ℕ) {s : S} {ls : List ℕ} {gs : List (List ℕ)} → T (is-silent r)
+      → Shows s (low-first r e ls) (gap-first r e gs)
       → Shows s ls gs
   unfolding low-first gap-first
   passed-over missing e h w = absurd h
@@ -85,9 +88,10 @@ module _ {S : Type 0} (M : Machine S) (O : Observation S) where
 
   pub shows-silent : {s t : S} {ls : List ℕ} {gs : List (List ℕ)} → Silent M O s t → Shows t ls gs → Shows s ls gs
   shows-silent still w = w
-  shows-silent (then e h p a) w = passed-over (role M O e) e h (shows-step p (shows-silent a w))
+  shows-silent (then e h p a) w = passed-over _ e h (shows-step p (shows-silent a w))
 
   -- A low event in front, with silent steps around it.
-  pub shows-around : {e : ℕ} {s t : S} {ls : List ℕ} {gs : List (List ℕ)} (k : Kind) → role M O e ≡ low k → Around M O e s t → Shows t ls gs
+  pub shows-around : {e : ℕ} {s t : S} {ls : List ℕ} {gs : List (List ℕ)} (k : Kind) → role M O e ≡ low k
+      → Around M O e s t → Shows t ls gs
       → Shows s (e ∷ ls) ([] ∷ gs)
   shows-around k q r w = shows-silent (r .before) (shows-low k q (r .step) (shows-silent (r .after) w))

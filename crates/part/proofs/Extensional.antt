@@ -1,4 +1,4 @@
--- Two accepted records are equal exactly when they say the same. Assumes nothing.
+-- Two accepted records are equal exactly when they say the same.
 use Prim.Native.Nat.{ℕ, zero, suc, _≤_, _<_}
 use mathlib.Core.Path.{_≡_, refl, sym, ap, _∙_, subst}
 use mathlib.Core.Bool.{Bool, true, false}
@@ -10,11 +10,11 @@ use lib.Dec.{T}
 use Rattle.bounded.proofs.Search.{passed}
 use Rattle.machine.specs.Machine.{Kind, input, output, internal}
 use Rattle.words.proofs.Sets.{same-members}
-use Rattle.part.specs.Limits.{max-event-kind}
+use Rattle.part.specs.Format.{max-event-kind}
 use Rattle.part.specs.Record.{states, events, identifier, event-kind, level, row}
 use Rattle.part.specs.Rejections.{Accepted}
-use Rattle.part.specs.Layout.{fields-of}
-use Rattle.part.specs.Machine.{kind-of, place, event-of}
+use Rattle.part.specs.Frame.{fields-of}
+use Rattle.part.specs.Events.{kind-of, place, event-of}
 use Rattle.part.specs.Theorems.{Same, Extensionality}
 use Rattle.part.proofs.Rising.{Within, same-sequence}
 use Rattle.part.proofs.Ranges.{ranges, row-lt}
@@ -53,7 +53,7 @@ module _ (a b : List ℕ) (ok : Accepted a) (ok′ : Accepted b) (same : Same a 
   -- as many events, with the same identifiers
   same-identifiers : (events a ≡ events b) × ((i : ℕ) → i < events a → identifier a i ≡ identifier b i)
   same-identifiers =
-      same-sequence (identifier a) (identifier b) (events a) (events b) (ranges a ok .identifiers-rise) (ranges b ok′ .identifiers-rise)
+      same-sequence _ _ _ _ (ranges a ok .identifiers-rise) (ranges b ok′ .identifiers-rise)
       (identifiers-within a b ok ok′ (same .event-maps))
       (identifiers-within b a ok′ ok (λ e. sym (same .event-maps e)))
 
@@ -70,22 +70,23 @@ module _ (a b : List ℕ) (ok : Accepted a) (ok′ : Accepted b) (same : Same a 
 
     same-event : (kind-of (event-kind a i) ≡ kind-of (event-kind b i)) × (level a i ≡ level b i)
     same-event =
-        let p = event-at a (identifier a i) i placed in
-        let q = event-at b (identifier a i) i placed′ in
+        let p = event-at a _ i placed in
+        let q = event-at b _ i placed′ in
         let r = same .event-maps (identifier a i) in
         (cc, cc)
 
     same-kind : event-kind a i ≡ event-kind b i
-    same-kind = sym (kind-byte-of _ (ranges a ok .kinds i h)) ∙ ap kind-byte (same-event .0) ∙ kind-byte-of _ (ranges b ok′ .kinds i h′)
+    same-kind = sym (kind-byte-of _ (ranges a ok .kinds i h)) ∙ ap kind-byte (same-event .0)
+        ∙ kind-byte-of _ (ranges b ok′ .kinds i h′)
 
     same-row : (s : ℕ) → s < states a → row a i s ≡ row b i s
     same-row s l =
-        same-members (states a) (row a i s) (row b i s)
+        same-members _ _ _
         (row-lt a ok i s h l)
         (rw (same .counts) (row-lt b ok′ i s h′ (rw (same .counts) at l)))
         (λ t n.
-        same-test _ _ (Iff·trans (Iff·symm (leads-at a (identifier a i) i s t placed))
-        (Iff·trans (same .steps (identifier a i) s t l n) (leads-at b (identifier a i) i s t placed′))))
+        same-test _ _ (Iff·trans (Iff·symm (leads-at a _ i s t placed))
+        (Iff·trans (same .steps (identifier a i) s t l n) (leads-at b _ i s t placed′))))
 
 same-self : (a : List ℕ) → Same a a
 same-self a = record {
@@ -103,15 +104,17 @@ extensionality a b bytes bytes′ ok ok′ = (
   λ same.
       sym (layout-fields a bytes ok)
       ∙ sym (layout-cong (fields-of b) (fields-of a) (record {
+        tables = record {
+          counts = sym (same .counts);
+          starts = sym (same .starts);
+          event-counts = sym (same-identifiers a b ok ok′ same .0);
+          identifiers = λ i h. sym (same-identifiers a b ok ok′ same .1 i h);
+          event-kinds = λ i h. sym (same-kind a b ok ok′ same i h);
+          levels = λ i h. sym (same-event a b ok ok′ same i h .1);
+          rows = λ i s h l. sym (same-row a b ok ok′ same i h s l);
+        };
         observers = sym (same .observers);
-        counts = sym (same .counts);
-        starts = sym (same .starts);
-        event-counts = sym (same-identifiers a b ok ok′ same .0);
         classes = λ s h. sym (same .classes s h);
-        identifiers = λ i h. sym (same-identifiers a b ok ok′ same .1 i h);
-        event-kinds = λ i h. sym (same-kind a b ok ok′ same i h);
-        levels = λ i h. sym (same-event a b ok ok′ same i h .1);
-        rows = λ i s h l. sym (same-row a b ok ok′ same i h s l);
       }))
       ∙ layout-fields b bytes′ ok′,
 )

@@ -1,5 +1,5 @@
--- The place of an event and its identifier determine each other, and what the machine has under an identifier stands at its place.
--- Assumes nothing.
+-- The place of an event and its identifier determine each other, and what the machine has under an identifier stands at
+-- its place.
 use Prim.Native.Nat.{ℕ, _+_, _-_, _≤_, _<_}
 use mathlib.Core.Path.{_≡_, refl, sym, ap, _∙_, subst}
 use mathlib.Core.Logic.{_↔_}
@@ -13,8 +13,10 @@ use Rattle.bounded.specs.Search.{first}
 use Rattle.bounded.proofs.Search.{first-more, first-nothing, first-found, first-at, first-hit, first-done}
 use Rattle.machine.specs.Machine.{Kind, absent, event}
 use Rattle.words.specs.Sets.{bit}
-use Rattle.part.specs.Record.{events, identifier, event-kind, level, row, Rising}
-use Rattle.part.specs.Machine.{kind-of, at-place, place, place-or-end, event-of, Leads}
+use Rattle.part.specs.Record.{events, identifier, event-kind, level, row}
+use Rattle.part.specs.Frame.{Rising}
+use Rattle.part.specs.Frame.{place-or-end}
+use Rattle.part.specs.Events.{kind-of, at-place, place, event-of, Leads}
 use Rattle.part.specs.Theorems.{Places}
 use Rattle.part.proofs.Ranges.{ranges}
 use Rattle.part.proofs.Rising.{rises-le}
@@ -22,24 +24,27 @@ use Rattle.part.proofs.Rising.{rises-le}
 module _ (b : List ℕ) (e i : ℕ) where
   at-same : identifier b i ≡ e → at-place b e i ≡ some i
   unfolding at-place
-  at-same q = rw (eq-eqb (identifier b i) e q, at-place)
+  at-same q = rw (eq-eqb _ e q, at-place)
 
   at-other : (identifier b i ≡ e → ⊥) → at-place b e i ≡ none
   unfolding at-place
-  at-other n = rw (ne-eqb (identifier b i) e n, at-place)
+  at-other n = rw (ne-eqb _ e n, at-place)
 
   at-some : (j : ℕ) → at-place b e i ≡ some j → (i ≡ j) × (identifier b i ≡ e)
   at-some j p =
-      elim (ℕ-discrete (identifier b i) e)
-      [ yes q ↦ (let s = at-same q in cc, q) | no n ↦ absurd (let s = at-other n in let z : _≡_ {A = ℕ} 0 1 = cc in omega arith) ]
+      elim (ℕ-discrete (identifier b i) e) [
+        | yes q ↦ (let s = at-same q in cc, q)
+        | no n ↦ absurd
+            (let s = at-other n in let z : _≡_ {A = ℕ} 0 1 = cc in omega arith)
+      ]
 
 module _ (b : List ℕ) (e : ℕ) where
   -- a place that is found is one of the record's, and e stands there
   place-stands : (i : ℕ) → place b e ≡ some i → (i < events b) × (identifier b i ≡ e)
   unfolding place
   place-stands i p =
-      let w = first-found (at-place b e) (events b) i p in
-      let s = at-some b e (w .at) i (w .found) in
+      let w = first-found _ _ i p in
+      let s = at-some b e _ i (w .found) in
       (subst (λ (j : ℕ). j < events b) (s .0) (w .below), subst (λ (j : ℕ). identifier b j ≡ e) (s .0) (s .1))
 
   -- ---- the place, or the number of events
@@ -77,35 +82,42 @@ module _ (b : List ℕ) (e : ℕ) where
   missed-none = refl
 
   pub missed-next : (i : ℕ) → Missed i → (identifier b i ≡ e → ⊥) → Missed (i + 1)
-  missed-next i p n = first-more (at-place b e) i p (at-other b e i n)
+  missed-next i p n = first-more _ i p (at-other b e i n)
 
   pub place-hit : (i : ℕ) → i < events b → Missed i → identifier b i ≡ e → i ≡ place-or-end b e
   unfolding place
-  place-hit i h p q = sym (place-end-some i (first-hit (at-place b e) (events b) i i h p (at-same b e i q)))
+  place-hit i h p q = sym (place-end-some i (first-hit _ _ i i h p (at-same b e i q)))
 
   pub place-done : (i : ℕ) → i ≡ events b → Missed i → i ≡ place-or-end b e
   unfolding place
-  place-done i q p = q ∙ sym (place-end-none (first-done (at-place b e) (events b) i q p))
+  place-done i q p = q ∙ sym (place-end-none (first-done _ _ i q p))
 
   -- ---- where the identifiers rise: what one place tells
 
   rising-place : Rising b → (i : ℕ) → i < events b → identifier b i ≡ e → place b e ≡ some i
   unfolding place
   rising-place up i h q =
-      first-at (at-place b e) (events b) i
-      (record { at = i; below = h; found = at-same b e i q; before = λ j l. at-other b e j (λ p. omega (arith, up j i l h)) })
+      first-at _ _ i
+      (record {
+        at = i;
+        below = h;
+        found = at-same b e i q;
+        before =
+            λ j l. at-other b e j (λ p. omega (arith, up j i l h));
+      })
 
   pub rising-hit : Rising b → (i : ℕ) → i < events b → identifier b i ≡ e → i ≡ place-or-end b e
   rising-hit up i h q = sym (place-end-some i (rising-place up i h q))
 
   -- e lies between the identifiers before the place i and at it
-  pub rising-gap : Rising b → (i : ℕ) → i ≤ events b → (i < events b → e < identifier b i) → (0 < i → identifier b (i - 1) < e)
+  pub rising-gap : Rising b → (i : ℕ) → i ≤ events b → (i < events b → e < identifier b i)
+      → (0 < i → identifier b (i - 1) < e)
       → events b ≡ place-or-end b e
   unfolding place
   rising-gap up i h above below =
-      let le = rises-le (identifier b) (events b) up in
+      let le = rises-le _ _ up in
       sym
-      (place-end-none (first-nothing (at-place b e) (events b) (λ j l. at-other b e j (λ q.
+      (place-end-none (first-nothing _ _ (λ j l. at-other b e j (λ q.
       elim (decLt j i) [
         | yes n ↦ omega (arith, below (omega arith), le j (i - 1) (omega arith) (omega arith))
         | no n ↦ omega (arith, above (omega arith), le i j (omega arith) l)
@@ -113,7 +125,7 @@ module _ (b : List ℕ) (e : ℕ) where
 
 pub places : Places
 places b a = record {
-  found = λ i h. rising-place b (identifier b i) (ranges b a .identifiers-rise) i h refl;
+  found = λ i h. rising-place b _ (ranges b a .identifiers-rise) i h refl;
   stands = place-stands b;
 }
 

@@ -1,4 +1,4 @@
--- What each condition that does not hold tells of the record, and the tests of condition 4. Assumes nothing.
+-- What each condition that does not hold tells of the record, and the tests of condition 4.
 use Prim.Native.Nat.{ℕ, _-_, _≤_, _<_}
 use mathlib.Core.Path.{_≡_}
 use mathlib.Core.Bool.{true, false}
@@ -8,30 +8,32 @@ use lib.ListN.{length}
 use lib.Dec.{ltb}
 use borrow.Author.Tests.{ltb-false, leb-false, eqb-true, not-false, le-ltb, lt-leb}
 use Rattle.bounded.proofs.Search.{or-left, or-right, is-true}
-use Rattle.part.specs.Limits.{max-states, max-events}
-use Rattle.part.specs.Record.{body-length, states, start, events, body-size, Framed}
-use Rattle.part.specs.Rejections.{too-short, wrong-length, out-of-range, wrong-size}
+use Rattle.part.specs.Format.{max-states, max-events, columns-at, body-size}
+use Rattle.part.specs.Record.{body-length, states, start, events, counts}
+use Rattle.part.specs.Frame.{Framed}
+use Rattle.part.specs.Rejections.{too-short, wrong-length, out-of-range, wrong-size, frame-conditions, NoneOf}
+use Rattle.part.proofs.Accepted.{not-too-short, not-wrong-length, not-out-of-range, not-wrong-size}
 
 module _ (b : List ℕ) where
   pub long : too-short b ≡ false → 6 ≤ length b
   unfolding too-short
-  long = ltb-false (length b) 6
+  long = ltb-false _ 6
 
   pub rest : wrong-length b ≡ false → body-length b ≡ length b - 6
   unfolding wrong-length
   rest e = eqb-true _ _ (not-false _ e)
 
   -- What 4 leaves: a body of four bytes or more, and the counts in their ranges.
-  pub record Counts : Type 0 where
+  pub record Ranged : Type 0 where
     pub body : 4 ≤ body-length b
     pub one-state : 1 ≤ states b
     pub most-states : states b ≤ max-states
     pub start-below : start b < states b
     pub most-events : events b ≤ max-events
 
-  pub counts : out-of-range b ≡ false → Counts
+  pub ranged : out-of-range b ≡ false → Ranged
   unfolding out-of-range
-  counts e = record {
+  ranged e = record {
     body = search (e, or-left, ltb-false);
     one-state = search (e, or-left, or-right, ltb-false);
     most-states = search (e, or-left, or-right, ltb-false);
@@ -40,24 +42,30 @@ module _ (b : List ℕ) where
   }
 
   -- A record that does not have these is out of range.
-  pub range-broken : (Counts → ⊥) → out-of-range b ≡ true
-  range-broken h = is-true (out-of-range b) (λ e. h (counts e))
+  pub range-broken : (Ranged → ⊥) → out-of-range b ≡ true
+  range-broken h = is-true _ (λ e. h (ranged e))
 
   -- The first four tests of 4 fail, and the last decides.
   pub last-range-test : 4 ≤ body-length b → 1 ≤ states b → states b ≤ max-states → start b < states b
       → out-of-range b ≡ ltb max-events (events b)
   unfolding out-of-range
   last-range-test h1 h2 h3 h4 =
-      rw (le-ltb (body-length b) 4 h1, le-ltb (states b) 1 h2, le-ltb max-states (states b) h3, lt-leb (states b) (start b) h4)
+      rw (le-ltb _ 4 h1, le-ltb _ 1 h2, le-ltb _ _ h3, lt-leb _ _ h4)
 
-  pub header-read : too-short b ≡ false → wrong-length b ≡ false → out-of-range b ≡ false → 10 ≤ length b
-  header-read e1 e2 e4 = let six = long e1 in let after = rest e2 in let c = counts e4 in omega arith
+  pub header-read : too-short b ≡ false → wrong-length b ≡ false → out-of-range b ≡ false → columns-at ≤ length b
+  header-read e1 e2 e4 = let six = long e1 in let after = rest e2 in let c = ranged e4 in omega arith
 
-  pub framed : too-short b ≡ false → wrong-length b ≡ false → out-of-range b ≡ false → wrong-size b ≡ false → Framed b
-  unfolding wrong-size body-size
-  framed e1 e2 e4 e5 =
-      let six = long e1 in
-      let after = rest e2 in
-      let size : body-length b ≡ body-size b = eqb-true _ _ (not-false _ e5) in
-      let c = counts e4 in
-      record { whole = omega arith; one-state = c .one-state; most-states = c .most-states; most-events = c .most-events }
+  pub framed : NoneOf frame-conditions b → Framed b
+  unfolding wrong-size
+  framed a =
+      let six = long (not-too-short b a) in
+      let after = rest (not-wrong-length b a) in
+      let size : body-length b ≡ body-size (counts b) = eqb-true _ _ (not-false _ (not-wrong-size b a)) in
+      let c = ranged (not-out-of-range b a) in
+      record {
+        whole = omega arith;
+        one-state = c .one-state;
+        most-states = c .most-states;
+        most-events =
+            c .most-events;
+      }

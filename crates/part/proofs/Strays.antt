@@ -1,16 +1,16 @@
--- Bits of a row at n or above: those of a union of rows, and none where n is 64. Assumes nothing.
+-- Bits of a row at n or above: those of a union of rows, and none where n is 64.
 use Prim.Native.Nat.{ℕ, _+_, _^_, _<_}
 use mathlib.Core.Path.{_≡_, sym, ap, _∙_}
 use mathlib.Core.Bool.{Bool, false, _||_}
 use mathlib.Core.List.{List}
 use borrow.Author.Tests.{lt-leb}
 use Rattle.bounded.specs.Search.{any}
-use Rattle.bounded.proofs.Search.{any-next, any-found, is-false, true-not-false}
+use Rattle.bounded.proofs.Search.{any-next, any-fails}
 use Rattle.words.specs.LittleEndian.{Bytes}
 use Rattle.words.specs.Sets.{union, exceeds}
 use Rattle.words.proofs.LittleEndian.{number-lt}
 use Rattle.words.proofs.Sets.{bit-zero, members-within, exceeds-union}
-use Rattle.part.specs.Limits.{max-states}
+use Rattle.part.specs.Format.{max-states}
 use Rattle.part.specs.Record.{states, row}
 use Rattle.part.specs.Rejections.{strays-at, row-strays, stray-bit}
 
@@ -22,15 +22,15 @@ module _ (b : List ℕ) (i : ℕ) where
 
   pub united-none : United 0 0
   unfolding any
-  united-none = members-within (states b) 0 (λ t l. bit-zero t)
+  united-none = members-within _ 0 (λ t l. bit-zero t)
 
   pub united-next : (s found x : ℕ) → United s found → x ≡ row b i s → United (s + 1) (union found x)
   unfolding strays-at
   united-next s found x e q =
-      exceeds-union (states b) found x
+      exceeds-union _ _ x
       ∙ ap (λ (p : Bool). p || exceeds (states b) x) e
       ∙ ap (λ (y : ℕ). any s (strays-at b i) || exceeds (states b) y) q
-      ∙ sym (any-next (strays-at b i) s)
+      ∙ sym (any-next _ s)
 
   pub united-done : (n s found : ℕ) → n ≡ states b → s ≡ n → United s found → exceeds n found ≡ row-strays b i
   unfolding row-strays
@@ -42,9 +42,6 @@ row-fits : (b : List ℕ) (i s : ℕ) → Bytes b → row b i s < 2 ^ 64
 unfolding row
 row-fits b i s h = number-lt 8 b _ h
 
-none-found : (n : ℕ) (f : ℕ → Bool) → ((i : ℕ) → f i ≡ false) → any n f ≡ false
-none-found n f h = is-false (any n f) (λ e. let w = any-found n f e in true-not-false (w .2) (h (w .0)))
-
 pub no-stray : (b : List ℕ) → Bytes b → states b ≡ max-states → stray-bit b ≡ false
 unfolding stray-bit row-strays strays-at exceeds
-no-stray b h e = none-found _ _ (λ i. none-found _ _ (λ s. rw e (lt-leb (2 ^ 64) (row b i s) (row-fits b i s h))))
+no-stray b h e = any-fails _ _ (λ i l. any-fails _ _ (λ s k. rw e (lt-leb _ _ (row-fits b i s h))))

@@ -18,6 +18,6 @@ number-of Misordered = 7
 number-of StrayBit = 8
 
 -- What screening a record says: no rejection, or one by its number.
-unfoldable pub says : Screening → Option ℕ
-says Accepted = none
-says (Rejected r) = some (number-of r)
+unfoldable pub rejection-of : Screening → Option ℕ
+rejection-of Accepted = none
+rejection-of (Rejected r) = some (number-of r)

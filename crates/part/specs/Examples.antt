@@ -10,10 +10,10 @@ use lib.ListN.{take, set}
 use Rattle.bounded.specs.Search.{first, or-else}
 use Rattle.machine.specs.Machine.{input, output, Event, absent, event}
 use Rattle.words.specs.LittleEndian.{number, digits, each}
-use Rattle.part.specs.Record.{kind, states, start, events, class, entry-at, identifier, event-kind, level}
+use Rattle.part.specs.Record.{kind, states, start, events, entry-at, identifier, event-kind, level}
 use Rattle.part.specs.Rejections.{falling}
 use Rattle.part.specs.Layout.{body}
-use Rattle.part.specs.Machine.{kind-of, at-place, place, event-of}
+use Rattle.part.specs.Events.{kind-of, at-place, place, event-of}
 use Rattle.part.specs.Samples.{P, Z, resetting}
 use Rattle.part.specs.Computed.{rejected-with}
 

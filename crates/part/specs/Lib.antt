@@ -1,9 +1,12 @@
-pub mod Limits
+pub mod Format
 pub mod Record
 pub mod Rejections
 pub mod Answers
-pub mod Layout
+pub mod Events
+pub mod MachineFacts
 pub mod Machine
+pub mod Layout
+pub mod Frame
 pub mod Theorems
 pub mod Samples
 pub mod Computed

@@ -2,14 +2,15 @@
 use Prim.Native.Nat.{ℕ, _+_, _-_}
 use mathlib.Core.Path.{_≡_}
 use mathlib.Core.Bool.{Bool, true, false, not, _||_}
-use mathlib.Core.List.{List, [], _∷_}
+use mathlib.Core.List.{List, [], _∷_, _++_}
 use mathlib.Core.Option.{Option, none, some}
 use lib.ListN.{length}
 use lib.Dec.{ltb, leb, eqb}
 use Rattle.bounded.specs.Search.{any}
 use Rattle.words.specs.Sets.{exceeds}
-use Rattle.part.specs.Limits.{max-states, max-events, header, part-kind, max-event-kind}
-use Rattle.part.specs.Record.{body-length, kind, states, start, events, class, classes-below, identifier, event-kind, row, body-size}
+use Rattle.words.specs.LittleEndian.{byte}
+use Rattle.part.specs.Format.{max-states, max-events, part-kind, max-event-kind, header, body-size}
+use Rattle.part.specs.Record.{body-length, kind, states, start, events, counts, column, classes-below, identifier, event-kind, row}
 
 -- 1: fewer than six bytes.
 unfoldable pub too-short : List ℕ → Bool
@@ -34,15 +35,19 @@ out-of-range b =
 
 -- 5: L is not 4 + n + 4m + 8mn.
 unfoldable pub wrong-size : List ℕ → Bool
-wrong-size b = not (eqb (body-length b) (body-size b))
+wrong-size b = not (eqb (body-length b) (body-size (counts b)))
 
--- The class of state s is more than one above the largest before it (above 0 for state 0).
+-- In a column the class of state s is more than one above the largest before it (above 0 for state 0).
 unfoldable pub skips-at : List ℕ → ℕ → Bool
-skips-at b s = ltb (classes-below b s) (class b s)
+skips-at column s = ltb (classes-below column s) (byte column s)
+
+-- The classes of a column are not numbered by first appearance.
+unfoldable pub unnumbered : List ℕ → Bool
+unnumbered column = any (length column) (skips-at column)
 
 -- 6: the classes are not numbered by first appearance.
 unfoldable pub misnumbered : List ℕ → Bool
-misnumbered b = any (states b) (skips-at b)
+misnumbered b = unnumbered (column b)
 
 -- The identifier at place i + 1 is not above the one at place i.
 unfoldable pub falls-at : List ℕ → ℕ → Bool
@@ -78,18 +83,26 @@ pub record Condition : Type 0 where
   pub number : ℕ
   pub holds : List ℕ → Bool
 
--- The conditions, in the order in which they are tested.
-abbrev pub conditions : List Condition
-conditions =
+-- The conditions, in the order in which they are tested: first those of the frame, behind which every field can be read, ..
+abbrev pub frame-conditions : List Condition
+frame-conditions =
     record { number = 1; holds = too-short }
     ∷ record { number = 2; holds = wrong-length }
     ∷ record { number = 3; holds = wrong-kind }
     ∷ record { number = 4; holds = out-of-range }
     ∷ record { number = 5; holds = wrong-size }
-    ∷ record { number = 6; holds = misnumbered }
+    ∷ []
+
+-- .. then those of the content.
+abbrev pub content-conditions : List Condition
+content-conditions =
+    record { number = 6; holds = misnumbered }
     ∷ record { number = 7; holds = misordered }
     ∷ record { number = 8; holds = stray-bit }
     ∷ []
+
+abbrev pub conditions : List Condition
+conditions = frame-conditions ++ content-conditions
 
 -- The number of the first condition of the list that holds, or none.
 unfoldable pub first-of : List Condition → List ℕ → Option ℕ

@@ -39,13 +39,14 @@ T kind level row-0 row-1 row-2 =
 -- n states, all of one class, and m inputs 0, 1, .. of level 0 that lead every state to state 0.
 abbrev pub resetting : ℕ → ℕ → List ℕ
 resetting n m = layout (record {
-  observer = 0;
-  states = n;
-  start = 0;
-  events = m;
-  class = λ s. 0;
-  identifier = λ i. i;
-  event-kind = λ i. 0;
-  level = λ i. 0;
-  row = λ i s. 1;
+  table = record {
+    states = n;
+    start = 0;
+    events = m;
+    identifier = λ i. i;
+    event-kind = λ i. 0;
+    level = λ i. 0;
+    row = λ i s. 1;
+  };
+  observer = record { level = 0; class = λ s. 0 };
 })

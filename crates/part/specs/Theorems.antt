@@ -1,5 +1,5 @@
 -- What is proved of records, as statements. Their proofs stand in proofs/: Ranges, Places, Extensional.
-use Prim.Native.Nat.{ℕ, suc, _+_, _*_, _≤_, _<_}
+use Prim.Native.Nat.{ℕ, suc, _≤_, _<_}
 use mathlib.Core.Path.{_≡_}
 use mathlib.Core.Logic.{_↔_}
 use mathlib.Core.List.{List}
@@ -8,10 +8,10 @@ use lib.ListN.{length}
 use lib.Dec.{T}
 use Rattle.words.specs.Sets.{bit}
 use Rattle.words.specs.LittleEndian.{Bytes}
-use Rattle.part.specs.Limits.{max-states, max-events, max-event-kind}
-use Rattle.part.specs.Record.{observer, states, start, events, class, identifier, event-kind, row}
+use Rattle.part.specs.Format.{max-states, max-events, max-event-kind, record-size}
+use Rattle.part.specs.Record.{observer, states, start, events, counts, class, identifier, event-kind, row}
 use Rattle.part.specs.Rejections.{Accepted}
-use Rattle.part.specs.Machine.{place, event-of, Leads}
+use Rattle.part.specs.Events.{place, event-of, Leads}
 
 -- The fields of a record lie in their ranges.
 pub record InRange (b : List ℕ) : Type 0 where
@@ -19,7 +19,7 @@ pub record InRange (b : List ℕ) : Type 0 where
   pub most-states : states b ≤ max-states
   pub start-is-state : start b < states b
   pub most-events : events b ≤ max-events
-  pub whole : length b ≡ 10 + states b + 4 * events b + 8 * (events b * states b)
+  pub whole : length b ≡ record-size (counts b)
   -- classes below n, numbered by first appearance: state 0 has class 0, each later one is at most one above some class before it
   pub class-below : (s : ℕ) → s < states b → class b s < states b
   pub class-first : class b 0 ≡ 0

@@ -3,9 +3,14 @@ ghost use mathlib.Core.Path.{_≡_};
 ghost use Prim.Native.Nat.{_+_, _<_, _≤_, _^_, max};
 ghost use mathlib.Core.Bool.{true};
 ghost use lib.ListN.{length};
+ghost use Rattle.words.specs.LittleEndian.{byte};
 ghost use Rattle.words.specs.Arrays.{Filled, words-of};
-ghost use Rattle.part.specs.Record.{body-length, kind, observer, states, start, events, class, classes-below, entry-at, identifier, event-kind, level, row-at, row, Rising, Framed};
-ghost use Rattle.part.specs.Machine.{place-or-end};
+ghost use Rattle.part.specs.Format.{header, columns-at};
+ghost use Rattle.part.specs.Frame.{Few};
+ghost use Rattle.part.specs.Record.{body-length, kind, observer, states, start, events, counts, column, entry-at, identifier, event-kind, level, row-at, row};
+ghost use Rattle.part.specs.Frame.{class-count, Rising, Framed};
+ghost use Rattle.part.specs.Frame.{place-or-end};
+use crate::format::Counts;
 use words::le;
 
 // One above the largest class so far, with the class c.
@@ -26,11 +31,24 @@ impl Part {
 
     pub const EVENTS: usize = 32;
 
+    // The bytes of length and kind, of the four numbers of the body, of an entry, of a row.
     pub const HEADER: usize = 6;
 
-    const BODY: usize = 4 + Part::STATES + 4 * Part::EVENTS + 8 * Part::EVENTS * Part::STATES;
+    pub const NUMBERS: usize = 4;
 
-    pub const RECORD: usize = Part::HEADER + Part::BODY;
+    pub const ENTRY: usize = 4;
+
+    pub const ROW: usize = 8;
+
+    // Where the class column begins.
+    pub const COLUMNS: usize = Part::HEADER + Part::NUMBERS;
+
+    const ROWS: usize = Part::EVENTS * Part::STATES;
+
+    pub const RECORD: usize = Part::COLUMNS
+        + Part::STATES
+        + Part::ENTRY * Part::EVENTS
+        + Part::ROW * Part::ROWS;
 
     pub const KIND: usize = 1;
 
@@ -40,28 +58,28 @@ impl Part {
     pub const EVENT_KIND: usize = Part::INTERNAL;
 
     pub fn body_length(b: &[u8]) -> usize
-        requires { ⌜ 6 ≤ length (now b) ⌝ }
+        requires { ⌜ header ≤ length (now b) ⌝ }
         ensures { λ r. ⌜ r ≡ body-length (now (b .entry)) ⌝ }
     {
         le::u32_at(b, 0)
     }
 
     pub fn kind(b: &[u8]) -> usize
-        requires { ⌜ 6 ≤ length (now b) ⌝ }
+        requires { ⌜ header ≤ length (now b) ⌝ }
         ensures { λ r. ⌜ r ≡ kind (now (b .entry)) ⌝ }
     {
         le::u16_at(b, 4)
     }
 
     pub fn observer(b: &[u8]) -> u8
-        requires { ⌜ 10 ≤ length (now b) ⌝ }
+        requires { ⌜ columns-at ≤ length (now b) ⌝ }
         ensures { λ r. ⌜ r ≡ observer (now (b .entry)) ⌝ }
     {
         b[6]
     }
 
     pub fn states(b: &[u8]) -> usize
-        requires { ⌜ 10 ≤ length (now b) ⌝ }
+        requires { ⌜ columns-at ≤ length (now b) ⌝ }
         ensures { λ r. ⌜ r ≡ states (now (b .entry)) ⌝ }
         ensures { λ r. ⌜ r < 256 ⌝ }
     {
@@ -69,40 +87,50 @@ impl Part {
     }
 
     pub fn start(b: &[u8]) -> usize
-        requires { ⌜ 10 ≤ length (now b) ⌝ }
+        requires { ⌜ columns-at ≤ length (now b) ⌝ }
         ensures { λ r. ⌜ r ≡ start (now (b .entry)) ⌝ }
     {
         le::u8_at(b, 8)
     }
 
     pub fn events(b: &[u8]) -> usize
-        requires { ⌜ 10 ≤ length (now b) ⌝ }
+        requires { ⌜ columns-at ≤ length (now b) ⌝ }
         ensures { λ r. ⌜ r ≡ events (now (b .entry)) ⌝ }
         ensures { λ r. ⌜ r < 256 ⌝ }
     {
         le::u8_at(b, 9)
     }
 
-    pub fn class(b: &[u8], s: usize) -> usize
+    pub fn counts(b: &[u8]) -> Counts
         requires { ⌜ Framed (now b) ⌝ }
-        requires { ⌜ s < states (now b) ⌝ }
-        ensures { λ r. ⌜ r ≡ class (now (b .entry)) s ⌝ }
-        ensures { λ r. ⌜ r < 256 ⌝ }
+        ensures { λ r. ⌜ r ≡ counts (now (b .entry)) ⌝ }
+        ensures { λ r. ⌜ Few r ⌝ }
     {
-        le::u8_at(b, 10 + s)
+        Counts {
+            states: Part::states(b),
+            events: Part::events(b),
+        }
     }
 
-    // How many classes there are: one above the largest.
-    pub fn classes(b: &[u8]) -> usize
+    // The class column, as a part of the record.
+    pub fn column(b: &[u8]) -> &[u8]
         requires { ⌜ Framed (now b) ⌝ }
-        ensures { λ r. ⌜ r ≡ classes-below (now (b .entry)) (states (now (b .entry))) ⌝ }
+        ensures { λ r. ⌜ now r ≡ column (now (b .entry)) ⌝ }
+    {
+        let at = Part::COLUMNS;
+        let end = at + Part::states(b);
+        &b[at..end]
+    }
+
+    // How many classes a column has: one above the largest.
+    pub fn classes(column: &[u8]) -> usize
+        ensures { λ r. ⌜ r ≡ class-count (now (column .entry)) ⌝ }
         ensures { λ r. ⌜ r ≤ 256 ⌝ }
     {
-        let n = Part::states(b);
         let mut count = 0;
         let mut s = 0;
-        while s < n {
-            count = classes_with(count, Part::class(b, s));
+        while s < column.len() {
+            count = classes_with(count, le::u8_at(column, s));
             s += 1;
         }
         count
@@ -114,7 +142,8 @@ impl Part {
         requires { ⌜ i < events (now b) ⌝ }
         ensures { λ r. ⌜ r ≡ entry-at (now (b .entry)) i ⌝ }
     {
-        10 + Part::states(b) + 4 * i
+        let counts = Part::counts(b);
+        counts.entries_at() + Part::ENTRY * i
     }
 
     pub fn identifier(b: &[u8], i: usize) -> usize
@@ -199,25 +228,24 @@ impl Part {
         b[at]
     }
 
-    pub fn row(b: &[u8], i: usize, s: usize) -> u64
-        requires { ⌜ Framed (now b) ⌝ }
-        requires { ⌜ i < events (now b) ⌝ }
-        requires { ⌜ s < states (now b) ⌝ }
-        ensures { λ r. ⌜ r ≡ row (now (b .entry)) i s ⌝ }
-    {
-        let n = Part::states(b);
-        let at = 10 + n + 4 * Part::events(b) + 8 * (i * n + s);
-        le::u64_at(b, at)
-    }
-
     // Where the rows of the event at place i begin.
     pub fn rows(b: &[u8], i: usize) -> usize
         requires { ⌜ Framed (now b) ⌝ }
         requires { ⌜ i < events (now b) ⌝ }
         ensures { λ r. ⌜ r ≡ row-at (now (b .entry)) i 0 ⌝ }
     {
-        let n = Part::states(b);
-        10 + n + 4 * Part::events(b) + 8 * (i * n)
+        let counts = Part::counts(b);
+        counts.rows_at() + Part::ROW * (i * counts.states)
+    }
+
+    pub fn row(b: &[u8], i: usize, s: usize) -> u64
+        requires { ⌜ Framed (now b) ⌝ }
+        requires { ⌜ i < events (now b) ⌝ }
+        requires { ⌜ s < states (now b) ⌝ }
+        ensures { λ r. ⌜ r ≡ row (now (b .entry)) i s ⌝ }
+    {
+        let at = Part::rows(b, i);
+        Part::row_from(b, at, i, s)
     }
 
     // As `row`, from where the event's rows begin.
@@ -228,7 +256,7 @@ impl Part {
         requires { ⌜ at ≡ row-at (now b) i 0 ⌝ }
         ensures { λ r. ⌜ r ≡ row (now (b .entry)) i s ⌝ }
     {
-        le::u64_at(b, at + 8 * s)
+        le::u64_at(b, at + Part::ROW * s)
     }
 
     // Over the start of out: the rows of the event at place i.

@@ -1,20 +1,24 @@
-// The rejections 1 to 8 of a record, in order (specs/Rejections.antt): one function for each condition, and the cascade.
+// The rejections 1 to 8 of a record, in order (specs/Rejections.antt): one function for each condition, and two cascades.
 ghost use mathlib.Core.Path.{_≡_};
 ghost use Prim.Native.Nat.{_+_, _<_};
 ghost use mathlib.Core.Bool.{false};
-ghost use Rattle.part.specs.Record.{states, events, Framed};
-ghost use Rattle.part.specs.Rejections.{too-short, wrong-length, wrong-kind, out-of-range, wrong-size, misnumbered, falls-at, falling, unknown-at, unknown-kind, misordered, row-strays, stray-bit, rejection};
-ghost use Rattle.part.specs.Answers.{number-of, says};
+ghost use Rattle.part.specs.Record.{states, events};
+ghost use Rattle.part.specs.Frame.{Framed};
+ghost use Rattle.part.specs.Rejections.{too-short, wrong-length, wrong-kind, out-of-range, wrong-size, unnumbered, falls-at, falling, unknown-at, unknown-kind, misordered, row-strays, stray-bit, frame-conditions, content-conditions, first-of, rejection};
+ghost use Rattle.part.specs.Answers.{number-of, rejection-of};
 use crate::answer::Rejection;
 use crate::answer::Screening;
 use crate::field::Part;
 use crate::field::classes_with;
+use crate::format::Counts;
+use words::le;
 use words::set;
 
 impl Rejection {
     // The number of document 01.
     pub fn number(self) -> u32
         ensures { λ k. ⌜ k ≡ number-of self ⌝ }
+        ensures { λ k. ⌜ k < 100 ⌝ }
     {
         match self {
             Rejection::TooShort => 1,
@@ -54,7 +58,7 @@ fn out_of_range(b: &[u8]) -> bool
     requires { ⌜ wrong-length (now b) ≡ false ⌝ }
     ensures { λ r. ⌜ r ≡ out-of-range (now (b .entry)) ⌝ }
 {
-    if b.len() < Part::HEADER + 4 {
+    if b.len() < Part::COLUMNS {
         return true;
     }
     let n = Part::states(b);
@@ -76,20 +80,21 @@ fn wrong_size(b: &[u8]) -> bool
     requires { ⌜ out-of-range (now b) ≡ false ⌝ }
     ensures { λ r. ⌜ r ≡ wrong-size (now (b .entry)) ⌝ }
 {
-    let n = Part::states(b);
-    let m = Part::events(b);
-    Part::body_length(b) != 4 + n + 4 * m + 8 * (m * n)
+    let counts = Counts {
+        states: Part::states(b),
+        events: Part::events(b),
+    };
+    Part::body_length(b) != counts.body_size()
 }
 
-fn misnumbered(b: &[u8]) -> bool
-    requires { ⌜ Framed (now b) ⌝ }
-    ensures { λ r. ⌜ r ≡ misnumbered (now (b .entry)) ⌝ }
+// The classes of a column are not numbered by first appearance.
+fn unnumbered(column: &[u8]) -> bool
+    ensures { λ r. ⌜ r ≡ unnumbered (now (column .entry)) ⌝ }
 {
-    let n = Part::states(b);
     let mut count = 0;
     let mut s = 0;
-    while s < n {
-        let c = Part::class(b, s);
+    while s < column.len() {
+        let c = le::u8_at(column, s);
         if count < c {
             return true;
         }
@@ -190,9 +195,9 @@ fn stray_bit(b: &[u8]) -> bool
     false
 }
 
-// The first rejection that applies to the bytes, or none.
-pub fn screen(b: &[u8]) -> Screening
-    ensures { λ r. ⌜ says r ≡ rejection (now (b .entry)) ⌝ }
+// The rejections 1 to 5: header, counts and size.
+fn screen_frame(b: &[u8]) -> Screening
+    ensures { λ r. ⌜ rejection-of r ≡ first-of frame-conditions (now (b .entry)) ⌝ }
 {
     if too_short(b) {
         return Screening::Rejected(Rejection::TooShort);
@@ -209,7 +214,15 @@ pub fn screen(b: &[u8]) -> Screening
     if wrong_size(b) {
         return Screening::Rejected(Rejection::WrongSize);
     }
-    if misnumbered(b) {
+    Screening::Accepted
+}
+
+// The rejections 6 to 8: classes, entries and rows.
+fn screen_content(b: &[u8]) -> Screening
+    requires { ⌜ Framed (now b) ⌝ }
+    ensures { λ r. ⌜ rejection-of r ≡ first-of content-conditions (now (b .entry)) ⌝ }
+{
+    if unnumbered(Part::column(b)) {
         return Screening::Rejected(Rejection::Misnumbered);
     }
     if misordered(b) {
@@ -219,4 +232,16 @@ pub fn screen(b: &[u8]) -> Screening
         return Screening::Rejected(Rejection::StrayBit);
     }
     Screening::Accepted
+}
+
+// The first rejection that applies to the bytes, or none.
+pub fn screen(b: &[u8]) -> Screening
+    ensures { λ r. ⌜ rejection-of r ≡ rejection (now (b .entry)) ⌝ }
+{
+    let screened = screen_frame(b);
+    match screened {
+        Screening::Rejected(_) => return screened,
+        Screening::Accepted => {}
+    }
+    screen_content(b)
 }

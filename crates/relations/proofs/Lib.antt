@@ -1,7 +1,7 @@
 pub mod InPlace
 pub mod Sorted
 pub mod Roles
-pub mod Spoken
-pub mod SilentRows
+pub mod Concerned
+pub mod StepRows
 pub mod ClassRows
 pub mod ClassSeen

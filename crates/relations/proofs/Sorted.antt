@@ -1,4 +1,4 @@
--- Words into which a loop sorts the numbers below a bound, each into the word at its key. Assumes nothing.
+-- Words into which a loop sorts the numbers below a bound, each into the word at its key.
 use Prim.Native.Nat.{ℕ, _+_, _<_}
 use mathlib.Core.Path.{_≡_, sym, ap, _∙_}
 use mathlib.Core.Bool.{Bool, _||_, _&&_, and-true, and-false, or-false}
@@ -9,7 +9,7 @@ use lib.Dec.{eqb, ltb}
 use lib.Seq.{getD-set-same, getD-set-other}
 use lib.ListN.{length, getD, set, replicate, length-replicate, getD-replicate, length-set}
 use borrow.Author.Tests.{lt-ltb, le-ltb, eq-eqb, ne-eqb}
-use Rattle.words.specs.Sets.{bit, union, single, Represents}
+use Rattle.words.specs.Sets.{union, single, Represents}
 use Rattle.words.proofs.Sets.{bit-zero, bit-union, bit-single}
 
 -- The numbers below i + 1 that pass a test are those below i, and i if it does.
@@ -37,7 +37,8 @@ module _ (n : ℕ) (key : ℕ → ℕ) where
   }
 
   -- The word at the key of i, with i.
-  pub sorted-more : (i k y : ℕ) (words : List ℕ) → k ≡ key i → k < n → y ≡ union (getD words k 0) (single i) → Sorted i words
+  pub sorted-more : (i k y : ℕ) (words : List ℕ) → k ≡ key i → k < n → y ≡ union (getD words k 0) (single i)
+      → Sorted i words
       → Sorted (i + 1) (set words k y)
   sorted-more i k y words own small more before = record {
     size = length-set words k y ∙ before .size;
@@ -50,17 +51,17 @@ module _ (n : ℕ) (key : ℕ → ℕ) where
                 bit-single i j,
                 before .holds c h j,
                 below-next (λ u. eqb (key u) c) i j,
-                eq-eqb (key i) c (sym own ∙ e),
-                and-true (eqb i j),
+                eq-eqb _ c (sym own ∙ e),
+                and-true _,
               )
           | no d ↦
               cc (
                 getD-set-other words k c y 0 (λ e. d (sym e)),
                 before .holds c h j,
                 below-next (λ u. eqb (key u) c) i j,
-                ne-eqb (key i) c (λ e. d (own ∙ e)),
-                and-false (eqb i j),
-                or-false (ltb j i && eqb (key j) c),
+                ne-eqb _ c (λ e. d (own ∙ e)),
+                and-false _,
+                or-false _,
               )
         ];
   }

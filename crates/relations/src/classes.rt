@@ -1,40 +1,38 @@
-// Sets by class and by state: the states of a class, the classes that they all offer, and whether they offer the same.
+// Sets by class and by state: the states of a class, the classes that they all offer, and whether they offer the same. A column has the class
+// of each state, a byte each.
 ghost use mathlib.Core.Path.{_≡_};
 ghost use mathlib.Core.Bool.{true};
 ghost use mathlib.Core.Logic.{_↔_};
-ghost use lib.ListN.{replicate};
-ghost use Rattle.part.specs.Record.{Framed};
-ghost use Rattle.relations.specs.Sets.{ClassesBelow, Owns, Members, Mates, Alone, Even, Common, Agreed};
-use part::Part;
+ghost use lib.ListN.{length, replicate};
+ghost use Rattle.words.specs.Arrays.{Filled, sets-of};
+ghost use Rattle.words.specs.LittleEndian.{byte};
+ghost use Rattle.relations.specs.Sets.{Partition, ClassOf, StatesOf, ClassMates, AllDistinct, ClasswiseEqual, OfferedByClass, offered-states};
+use words::le;
 use words::set;
 
 // By state, its class as a set of one.
-pub fn own(b: &[u8]) -> [u64; 64]
-    requires { ⌜ Framed (now b) ⌝ }
-    requires { ⌜ ClassesBelow (now b) ⌝ }
-    ensures { λ r. ⌜ Owns (now (b .entry)) r ⌝ }
+pub fn class_of(column: &[u8]) -> [u64; 64]
+    requires { ⌜ Partition (now column) ⌝ }
+    ensures { λ r. ⌜ ClassOf (length (now (column .entry))) (byte (now (column .entry))) r ⌝ }
 {
-    let n = Part::states(b);
     let mut sets = set::empties();
     let mut s = 0;
-    while s < n {
-        sets[s] = set::single(Part::class(b, s));
+    while s < column.len() {
+        sets[s] = set::single(le::u8_at(column, s));
         s += 1;
     }
     sets
 }
 
 // By class, its states.
-fn members(b: &[u8]) -> [u64; 64]
-    requires { ⌜ Framed (now b) ⌝ }
-    requires { ⌜ ClassesBelow (now b) ⌝ }
-    ensures { λ r. ⌜ Members (now (b .entry)) r ⌝ }
+fn states_of(column: &[u8]) -> [u64; 64]
+    requires { ⌜ Partition (now column) ⌝ }
+    ensures { λ r. ⌜ StatesOf (length (now (column .entry))) (byte (now (column .entry))) r ⌝ }
 {
-    let n = Part::states(b);
     let mut sets = set::empties();
     let mut s = 0;
-    while s < n {
-        let c = Part::class(b, s);
+    while s < column.len() {
+        let c = le::u8_at(column, s);
         sets[c] = set::union(sets[c], set::single(s));
         s += 1;
     }
@@ -42,34 +40,30 @@ fn members(b: &[u8]) -> [u64; 64]
 }
 
 // By state, the states of its class.
-pub fn mates(b: &[u8]) -> [u64; 64]
-    requires { ⌜ Framed (now b) ⌝ }
-    requires { ⌜ ClassesBelow (now b) ⌝ }
-    ensures { λ r. ⌜ Mates (now (b .entry)) r ⌝ }
+pub fn class_mates(column: &[u8]) -> [u64; 64]
+    requires { ⌜ Partition (now column) ⌝ }
+    ensures { λ r. ⌜ ClassMates (length (now (column .entry))) (byte (now (column .entry))) r ⌝ }
 {
-    let n = Part::states(b);
-    let members = members(b);
+    let states = states_of(column);
     let mut sets = set::empties();
     let mut s = 0;
-    while s < n {
-        let c = Part::class(b, s);
-        sets[s] = members[c];
+    while s < column.len() {
+        let c = le::u8_at(column, s);
+        sets[s] = states[c];
         s += 1;
     }
     sets
 }
 
 // No two states share a class.
-pub fn distinct(b: &[u8]) -> bool
-    requires { ⌜ Framed (now b) ⌝ }
-    requires { ⌜ ClassesBelow (now b) ⌝ }
-    ensures { λ r. ⌜ (r ≡ true) ↔ Alone (now (b .entry)) ⌝ }
+pub fn all_distinct(column: &[u8]) -> bool
+    requires { ⌜ Partition (now column) ⌝ }
+    ensures { λ r. ⌜ (r ≡ true) ↔ AllDistinct (length (now (column .entry))) (byte (now (column .entry))) ⌝ }
 {
-    let n = Part::states(b);
     let mut seen = 0;
     let mut s = 0;
-    while s < n {
-        let c = Part::class(b, s);
+    while s < column.len() {
+        let c = le::u8_at(column, s);
         if set::contains(seen, c) {
             return false;
         }
@@ -79,18 +73,16 @@ pub fn distinct(b: &[u8]) -> bool
     true
 }
 
-// The states of a class have the same word. `first` is room for the first word of each class.
-pub fn even(b: &[u8], words: &[u64; 64], first: &mut [u64; 64]) -> bool
-    requires { ⌜ Framed (now b) ⌝ }
-    requires { ⌜ ClassesBelow (now b) ⌝ }
-    ensures { λ r. ⌜ (r ≡ true) ↔ Even (now (b .entry)) (now (words .entry)) ⌝ }
+// The states of a class have the same word. `first` is scratch, for the first word of each class.
+pub fn classwise_equal(column: &[u8], words: &[u64; 64], first: &mut [u64; 64]) -> bool
+    requires { ⌜ Partition (now column) ⌝ }
+    ensures { λ r. ⌜ (r ≡ true) ↔ ClasswiseEqual (length (now (column .entry))) (byte (now (column .entry))) (now (words .entry)) ⌝ }
 {
-    let n = Part::states(b);
     let firsts = &mut first[..];
     let mut seen = 0;
     let mut s = 0;
-    while s < n {
-        let c = Part::class(b, s);
+    while s < column.len() {
+        let c = le::u8_at(column, s);
         if !set::contains(seen, c) {
             firsts[c] = words[s];
             seen = set::union(seen, set::single(c));
@@ -104,37 +96,33 @@ pub fn even(b: &[u8], words: &[u64; 64], first: &mut [u64; 64]) -> bool
 }
 
 // Over full sets: by class, the classes that each of its states offers.
-fn put_common(out: &mut [u64; 64], b: &[u8], offers: &[u64; 64])
-    requires { ⌜ Framed (now b) ⌝ }
-    requires { ⌜ ClassesBelow (now b) ⌝ }
+fn put_offered_classes(out: &mut [u64; 64], column: &[u8], offers: &[u64; 64])
+    requires { ⌜ Partition (now column) ⌝ }
     requires { ⌜ now out ≡ replicate 64 18446744073709551615 ⌝ }
-    ensures { λ _. ⌜ Common (now (b .entry)) (now (offers .entry)) (now (out .exit)) ⌝ }
+    ensures { λ _. ⌜ OfferedByClass (length (now (column .entry))) (byte (now (column .entry))) (now (offers .entry)) (now (out .exit)) ⌝ }
 {
-    let n = Part::states(b);
     let sets = &mut out[..];
     let mut u = 0;
-    while u < n {
-        let c = Part::class(b, u);
+    while u < column.len() {
+        let c = le::u8_at(column, u);
         sets[c] = set::intersection(sets[c], offers[u]);
         u += 1;
     }
 }
 
-// Over out: by state, the states whose class each state of its class offers.
-pub fn put_agreed(out: &mut [u64; 64], b: &[u8], offers: &[u64; 64])
-    requires { ⌜ Framed (now b) ⌝ }
-    requires { ⌜ ClassesBelow (now b) ⌝ }
-    ensures { λ _. ⌜ Agreed (now (b .entry)) (now (offers .entry)) (now (out .exit)) ⌝ }
+// Over the start of out: by state, the states whose class each state of its class offers.
+pub fn put_offered_states(out: &mut [u64; 64], column: &[u8], offers: &[u64; 64])
+    requires { ⌜ Partition (now column) ⌝ }
+    ensures { λ _. ⌜ Filled (sets-of (offered-states (length (now (column .entry))) (byte (now (column .entry))) (now (offers .entry)))) (length (now (column .entry))) (now (out .entry)) (now (out .exit)) ⌝ }
 {
-    let n = Part::states(b);
-    let members = members(b);
+    let states = states_of(column);
     let mut common = [18446744073709551615u64; 64];
-    put_common(&mut common, b, offers);
+    put_offered_classes(&mut common, column, offers);
     let words = &mut out[..];
     let mut s = 0;
-    while s < n {
-        let c = Part::class(b, s);
-        words[s] = set::gather(common[c], &members);
+    while s < column.len() {
+        let c = le::u8_at(column, s);
+        words[s] = set::gather(common[c], &states);
         s += 1;
     }
 }

@@ -4,53 +4,65 @@ ghost use Prim.Native.Nat.{ℕ, _<_};
 ghost use lib.ListN.{getD};
 ghost use Rattle.words.specs.Arrays.{Filled, sets-of};
 ghost use Rattle.words.specs.Sets.{gathered};
-ghost use Rattle.part.specs.Record.{states, events, row, Framed};
-ghost use Rattle.relations.specs.Sets.{own-rule, rule-of, Spoken};
+ghost use Rattle.part.specs.Record.{states, events, row};
+ghost use Rattle.part.specs.Frame.{Framed};
+ghost use Rattle.relations.specs.Sets.{rule-by, rule-of, Concerned};
 use level::Level;
 use part::Part;
 use words::set;
 
-// The one of the rules 2 to 5, less one, that speaks of an event: a high or low input, a high or low other event.
-fn own_rule(input: bool, low: bool) -> usize
-    ensures { λ r. ⌜ r ≡ own-rule input low ⌝ }
+// The rules, as places in an array by rule.
+pub const RULE_1: usize = 0;
+
+pub const RULE_2: usize = 1;
+
+pub const RULE_3: usize = 2;
+
+pub const RULE_4: usize = 3;
+
+pub const RULE_5: usize = 4;
+
+// The one of the rules 2 to 5 that speaks of an event: a high or low input, a high or low other event.
+fn rule_by(input: bool, low: bool) -> usize
+    ensures { λ r. ⌜ r ≡ rule-by input low ⌝ }
 {
     if input {
         if low {
-            return 2;
+            return RULE_3;
         }
-        return 1;
+        return RULE_2;
     }
     if low {
-        return 4;
+        return RULE_5;
     }
-    3
+    RULE_4
 }
 
 // The same of the event at place i.
-fn rule_of(b: &[u8], i: usize) -> usize
+fn rule_of(b: &[u8], observer: u8, i: usize) -> usize
     requires { ⌜ Framed (now b) ⌝ }
     requires { ⌜ i < events (now b) ⌝ }
-    ensures { λ r. ⌜ r ≡ rule-of (now (b .entry)) i ⌝ }
+    ensures { λ r. ⌜ r ≡ rule-of (now (b .entry)) observer i ⌝ }
 {
     let input = Part::event_kind(b, i) == 0;
-    let low = Level::is_low(Part::observer(b), Part::level(b, i));
-    own_rule(input, low)
+    let low = Level::is_low(observer, Part::level(b, i));
+    rule_by(input, low)
 }
 
-// The set of the events that each rule speaks of.
-pub fn spoken(b: &[u8]) -> [u64; 5]
+// By rule, the set of the events that it speaks of.
+pub fn concerned(b: &[u8], observer: u8) -> [u64; 5]
     requires { ⌜ Framed (now b) ⌝ }
-    ensures { λ r. ⌜ ((k : ℕ) → k < 5 → Spoken (now (b .entry)) k (getD r k 0)) ⌝ }
+    ensures { λ r. ⌜ ((k : ℕ) → k < 5 → Concerned (now (b .entry)) observer k (getD r k 0)) ⌝ }
 {
     let m = Part::events(b);
     let mut sets = [0u64; 5];
     let mut i = 0;
     while i < m {
-        let k = rule_of(b, i);
+        let k = rule_of(b, observer, i);
         sets[k] = set::union(sets[k], set::single(i));
         i += 1;
     }
-    sets[0] = set::union(sets[1], sets[2]);
+    sets[RULE_1] = set::union(sets[RULE_2], sets[RULE_3]);
     sets
 }
 

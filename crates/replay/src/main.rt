@@ -36,7 +36,8 @@ fn operations(script: &[u8], shelf: &mut [u8], out: &mut [u8]) -> bool
         if !print(&out[..n]) {
             return false;
         }
-        let size = decode(script, at).size();
+        let d = decode(script, at);
+        let size = d.1;
         if size == 0 {
             return true;
         }
@@ -44,6 +45,7 @@ fn operations(script: &[u8], shelf: &mut [u8], out: &mut [u8]) -> bool
     }
 }
 
+// The operations of a script on a shelf, and the shelf's line.
 fn replay(script: &[u8], shelf: &mut [u8])
     requires { ⌜ 4 ≤ length (now script) ⌝ }
     requires { ⌜ length (now shelf) ≤ 262144 ⌝ }
@@ -55,6 +57,7 @@ fn replay(script: &[u8], shelf: &mut [u8])
     }
 }
 
+// A whole script.
 fn run(script: &[u8]) {
     if MOST < script.len() {
         print(b"script\n");

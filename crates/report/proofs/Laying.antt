@@ -1,14 +1,15 @@
--- The laws of lines laid over a list. Assumes nothing.
+-- The laws of lines laid over a list.
 use Prim.Native.Nat.{ℕ}
 use mathlib.Core.List.{List, _++_}
 use Rattle.words.specs.Laid.{Laid}
-use Rattle.words.proofs.Laying.{then}
+use Rattle.words.proofs.LaidLaws.{then}
 use Rattle.text.specs.Decimal.{decimal}
 use Rattle.restrictive.specs.Verdict.{Violation, refused, breaks}
 use Rattle.report.specs.Line.{refused-text, rule-text, event-text, from-text, to-text, other-text, line-end, line}
 
 module _ {d₀ d₁ d₂ : List ℕ} {a₁ a₂ : ℕ} where
-  pub laid-refusal : (k : ℕ) → Laid d₀ 0 (refused-text ++ decimal k) d₁ a₁ → Laid d₁ a₁ line-end d₂ a₂ → Laid d₀ 0 (line (refused k)) d₂ a₂
+  pub laid-refusal : (k : ℕ) → Laid d₀ 0 (refused-text ++ decimal k) d₁ a₁ → Laid d₁ a₁ line-end d₂ a₂
+      → Laid d₀ 0 (line (refused k)) d₂ a₂
   unfolding line
   laid-refusal k number end = then number end
 

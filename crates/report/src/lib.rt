@@ -4,7 +4,7 @@ ghost use mathlib.Core.List.{_++_};
 ghost use Prim.Native.Nat.{_≤_};
 ghost use lib.ListN.{length, take, drop};
 ghost use Rattle.part.specs.Answers.{number-of};
-ghost use Rattle.restrictive.specs.Answers.{named, means};
+ghost use Rattle.restrictive.specs.Answers.{violation-of, verdict-of};
 ghost use Rattle.restrictive.specs.Verdict.{refused, breaks, verdict};
 ghost use Rattle.report.specs.Line.{line, judged-bytes, line-of};
 use part::Rejection;
@@ -31,8 +31,8 @@ fn refusal(r: Rejection, out: &mut [u8; LINE]) -> usize
 // Writes the line of a break to the start of out, and answers its length. The rest of out stays.
 pub fn violation(v: Violation, out: &mut [u8]) -> usize
     requires { ⌜ 130 ≤ length (now out) ⌝ }
-    ensures { λ n. ⌜ n ≡ length (line (breaks (named v))) ⌝ }
-    ensures { λ n. ⌜ now (out .exit) ≡ line (breaks (named v)) ++ drop n (now (out .entry)) ⌝ }
+    ensures { λ n. ⌜ n ≡ length (line (breaks (violation-of v))) ⌝ }
+    ensures { λ n. ⌜ now (out .exit) ≡ line (breaks (violation-of v)) ++ drop n (now (out .entry)) ⌝ }
 {
     let event = labelled(b"rule ", v.rule, out, 0);
     let from = labelled(b" event ", v.event, out, event);
@@ -44,8 +44,8 @@ pub fn violation(v: Violation, out: &mut [u8]) -> usize
 
 // Writes the verdict's line to the start of out, and answers its length. The rest of out stays.
 pub fn line(v: Verdict, out: &mut [u8; LINE]) -> usize
-    ensures { λ r. ⌜ r ≡ length (line (means v)) ⌝ }
-    ensures { λ r. ⌜ now (out .exit) ≡ line (means v) ++ drop r (now (out .entry)) ⌝ }
+    ensures { λ r. ⌜ r ≡ length (line (verdict-of v)) ⌝ }
+    ensures { λ r. ⌜ now (out .exit) ≡ line (verdict-of v) ++ drop r (now (out .entry)) ⌝ }
 {
     match v {
         Verdict::Pass => lay(b"pass\n", out, 0),
@@ -56,7 +56,7 @@ pub fn line(v: Verdict, out: &mut [u8; LINE]) -> usize
 
 // The verdict on the first bytes of an input.
 fn judge(input: &[u8]) -> Verdict
-    ensures { λ r. ⌜ means r ≡ verdict (take judged-bytes (now (input .entry))) ⌝ }
+    ensures { λ r. ⌜ verdict-of r ≡ verdict (take judged-bytes (now (input .entry))) ⌝ }
 {
     if JUDGED < input.len() {
         return check(&input[..JUDGED]);

@@ -1,4 +1,4 @@
--- What a nested search finds: the first answer in the order of its levels; and so the first violation of a record. Assumes nothing.
+-- What a nested search finds: the first answer in the order of its levels; and so the first violation of a record.
 use Prim.Native.Nat.{ℕ, suc, _≤_, _<_}
 use mathlib.Core.Path.{_≡_, refl, sym, ap, _∙_, subst}
 use mathlib.Core.Bool.{Bool, true, false, cond}
@@ -11,13 +11,14 @@ use native.Mathlib.Omega.{arith}
 use lib.Dec.{T}
 use Rattle.bounded.specs.Search.{first}
 use Rattle.bounded.proofs.Search.{first-none, first-nothing, first-found, first-at}
-use Rattle.part.specs.Record.{states, events, identifier}
+use Rattle.part.specs.Record.{states, events, identifier, Observer}
 use Rattle.part.proofs.Rising.{Rises}
 use Rattle.restrictive.specs.Tests.{broken}
 use Rattle.relations.specs.Relations.{rule-at}
-use Rattle.restrictive.specs.Verdict.{Violation, violation-at, state-violation, event-violation, rule-violation, first-violation}
+use Rattle.restrictive.specs.Verdict.{Violation, violation-at, state-violation, event-violation, rule-violation}
+use Rattle.restrictive.specs.Verdict.{first-violation}
 use Rattle.restrictive.specs.Theorems.{Before, smaller, equal, in-order}
-use Rattle.restrictive.proofs.Truth.{Below}
+use Rattle.bounded.proofs.Truth.{Below}
 
 -- ---- the order of lists of numbers
 
@@ -47,16 +48,19 @@ module _ {A : Type 0} where
   abbrev pub NoneBefore : (A → List ℕ) → (A → Type 0) → A → Type 0
   NoneBefore order D x = (y : A) → D y → Before (order y) (order x) → ⊥
 
-  -- A search for the first of the answers D: it finds nothing exactly if there is none, and x exactly if x is one and none is before it.
+  -- A search for the first of the answers D: it finds nothing exactly if there is none, and x exactly if x is one and
+  -- none is before it.
   pub record Finds (order : A → List ℕ) (D : A → Type 0) (o : Option A) : Type 0 where
     pub nothing : (o ≡ none) ↔ None D
     pub something : (x : A) → (o ≡ some x) ↔ (D x × NoneBefore order D x)
 
   -- It is a search for the same answers said otherwise.
-  pub finds-as : {order : A → List ℕ} {D E : A → Type 0} {o : Option A} → ((x : A) → D x ↔ E x) → Finds order D o → Finds order E o
+  pub finds-as : {order : A → List ℕ} {D E : A → Type 0} {o : Option A} → ((x : A) → D x ↔ E x) → Finds order D o
+      → Finds order E o
   finds-as same w = record {
     nothing = Iff·trans (w .nothing) (λ c x d. c x (same x .1 d), λ c x d. c x (same x .0 d));
-    something = λ x. Iff·trans (w .something x) (Iff·and (same x) (λ c y d. c y (same y .1 d), λ c y d. c y (same y .0 d)));
+    something =
+        λ x. Iff·trans (w .something x) (Iff·and (same x) (λ c y d. c y (same y .1 d), λ c y d. c y (same y .0 d)));
   }
 
   -- The answers of the numbers below n.
@@ -82,8 +86,8 @@ module _ {A : Type 0} where
 rises-back : (key : ℕ → ℕ) (n : ℕ) → Rises key n → (i j : ℕ) → j < n → key j ≤ key i → j ≤ i
 rises-back key n up i j h l = elim (decLe j i) [ yes m ↦ m | no m ↦ absurd (omega (arith, up i j (omega arith) h)) ]
 
--- Where f i searches among the answers of i, and the order of these begins with a key that rises with i, `first n f` searches among the
--- answers of all numbers below n.
+-- Where f i searches among the answers of i, and the order of these begins with a key that rises with i, `first n f`
+-- searches among the answers of all numbers below n.
 module _ {A : Type 0} (n : ℕ) (key : ℕ → ℕ) (up : Rises key n) (head : A → ℕ) (order : A → List ℕ) (D : ℕ → A → Type 0)
     (keyed : (i : ℕ) (x : A) → D i x → head x ≡ key i) where
   abbrev under : A → List ℕ
@@ -101,10 +105,11 @@ module _ {A : Type 0} (n : ℕ) (key : ℕ → ℕ) (up : Rises key n) (head : A
         ⊎-elim
         (λ q. c .1 y (subst (λ (k : ℕ). D k y) q e) (before-rest (keyed j y e ∙ ap key q ∙ sym (keyed i x d)) b))
         (λ m. c .0 j m y e)
-        (eq-or-lt-of-le (rises-back key n up i j l (omega (arith, keyed i x d, keyed j y e, before-le b)))),
+        (eq-or-lt-of-le (rises-back _ n up i j l (omega (arith, keyed i x d, keyed j y e, before-le b)))),
   )
 
-  pub finds-first : (f : ℕ → Option A) → ((i : ℕ) → i < n → Finds order (D i) (f i)) → Finds under (Level n D) (first n f)
+  pub finds-first : (f : ℕ → Option A) → ((i : ℕ) → i < n → Finds order (D i) (f i))
+      → Finds under (Level n D) (first n f)
   finds-first f each = record {
     nothing = (
       λ e x ((i, h), d). each i h .nothing .0 (first-none f n e i h) x d,
@@ -130,21 +135,22 @@ module _ {A : Type 0} (n : ℕ) (key : ℕ → ℕ) (up : Rises key n) (head : A
 -- ---- the first violation
 
 -- v is the violation of a rule by the event at a place at states where the test says that the rule is broken.
-abbrev pub IsViolation : List ℕ → Violation → Type 0
-IsViolation b =
+abbrev pub IsViolation : List ℕ → Observer → Violation → Type 0
+IsViolation b o =
     let n = states b in
     Level 5 (λ k. Level (events b) (λ i. Level n (λ s. Level n (λ t. Level n (λ u v.
-    T (broken b (rule-at k) i s t u) × (record { rule = suc k; event = identifier b i; s = s; t = t; u = u } ≡ v))))))
+    T (broken b o (rule-at k) i s t u) × (record { rule = suc k; event = identifier b i; s = s; t = t; u = u } ≡ v))))))
 
 -- The search for it finds the first in the order in which violations are named.
-pub finds-violation : (b : List ℕ) → Rises (identifier b) (events b) → Finds in-order (IsViolation b) (first-violation b)
+pub finds-violation : (b : List ℕ) (o : Observer) → Rises (identifier b) (events b)
+    → Finds in-order (IsViolation b o) (first-violation b o)
 unfolding first-violation rule-violation event-violation state-violation violation-at
-finds-violation b up =
+finds-violation b o up =
     let n = states b in
     let same : Rises (λ s. s) n = λ i j l h. l in
     finds-first 5 suc (λ i j l h. omega arith) (λ v. v .rule) _ _ (λ j v d. cc) _ (λ k h.
-    finds-first (events b) (identifier b) up (λ v. v .event) _ _ (λ j v d. cc) _ (λ i h.
+    finds-first _ _ up (λ v. v .event) _ _ (λ j v d. cc) _ (λ i h.
     finds-first n _ same (λ v. v .s) _ _ (λ j v d. cc) _ (λ s h.
     finds-first n _ same (λ v. v .t) _ _ (λ j v d. cc) _ (λ t h.
     finds-first n _ same (λ v. v .u) _ _ (λ j v d. cc) _ (λ u h.
-    finds-here (broken b (rule-at k) i s t u) _)))))
+    finds-here (broken b o (rule-at k) i s t u) _)))))

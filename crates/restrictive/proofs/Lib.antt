@@ -1,11 +1,10 @@
-pub mod Truth
 pub mod Scans
 pub mod Offers
 pub mod SilentReach
 pub mod SilentWithin
-pub mod Answering
+pub mod OfferArrays
 pub mod Sameness
-pub mod Turns
+pub mod EventScans
 pub mod Reflect
 pub mod First
 pub mod Theorems

@@ -1,4 +1,4 @@
--- The tests are the rules: each holds at the place of an event and at states exactly where the relation does. Assumes nothing.
+-- The tests are the rules: each holds at the place of an event and at states exactly where the relation does.
 use Prim.Native.Nat.{ℕ}
 use mathlib.Core.Path.{_≡_, refl, ap, sym}
 use mathlib.Core.Bool.{Bool, not, _&&_}
@@ -7,30 +7,34 @@ use mathlib.Core.Option.{Option, none, some}
 use mathlib.Core.Logic.{_↔_}
 use lib.Dec.{T}
 use Rattle.bounded.specs.Search.{any}
-use Rattle.machine.specs.Roles.{Role, missing, role-of, role, is-input, is-low-input, is-high-input, is-silent, is-low-action}
+use Rattle.machine.specs.Roles.{Role, missing, role-of, role, is-input, is-low-input, is-high-input, is-silent}
+use Rattle.machine.specs.Roles.{is-low-action}
 use Rattle.machine.specs.Rules.{Rule, rule-1, rule-2, rule-3, rule-4, rule-5, Around, Asks, Answers, Broken}
 use Rattle.machine.proofs.Traces.{test-as}
 use Rattle.level.specs.Level.{low}
-use Rattle.part.specs.Record.{observer, states, class}
+use Rattle.part.specs.Record.{observer, states, class, observer-of}
 use Rattle.part.specs.Rejections.{Accepted}
-use Rattle.part.specs.Machine.{State, place, machine, observation}
+use Rattle.part.specs.Machine.{State, machine, observation}
+use Rattle.part.specs.Events.{place}
 use Rattle.part.proofs.Places.{event-none}
 use Rattle.relations.specs.Relations.{role-at, leads, same-class, reach}
 use Rattle.restrictive.specs.Tests.{around, asks, answers, broken}
-use Rattle.restrictive.proofs.Truth.{eqb-iff, and-iff, and-three-iff, not-iff, any-iff, any-both-iff}
+use Rattle.bounded.proofs.Truth.{eqb-iff, and-iff, and-three-iff, not-iff, any-iff, any-both-iff}
 use Rattle.restrictive.proofs.SilentReach.{role-iff, leads-iff, reach-silent}
 
 -- ---- classes
 
 module _ (b : List ℕ) where
-  class-iff : (s t : State b) → T (same-class b (s .0) (t .0)) ↔ (observation b .class s ≡ observation b .class t)
+  class-iff : (s t : State b)
+      → T (same-class (class b) (s .0) (t .0)) ↔ (observation b .class s ≡ observation b .class t)
   unfolding same-class
-  class-iff s t = eqb-iff (class b (s .0)) (class b (t .0))
+  class-iff s t = eqb-iff _ _
 
   -- Some state passes a test and has the class of t.
   in-class-iff : (f : ℕ → Bool) {P : State b → Type 0} → ((v : State b) → T (f (v .0)) ↔ P v) → (t : State b)
-      → T (any (states b) (λ v. f v && same-class b v (t .0))) ↔ ((v : State b) × P v × (observation b .class v ≡ observation b .class t))
-  in-class-iff f p t = any-both-iff (states b) f (λ v. same-class b v (t .0)) p (λ v. class-iff v t)
+      → T (any (states b) (λ v. f v && same-class (class b) v (t .0)))
+      ↔ ((v : State b) × P v × (observation b .class v ≡ observation b .class t))
+  in-class-iff f p t = any-both-iff _ f _ p (λ v. class-iff v t)
 
 -- ---- an event at a place
 
@@ -40,43 +44,52 @@ module _ (b : List ℕ) (a : Accepted b) (e i : ℕ) (p : place b e ≡ some i) 
 
   -- An event that passes a test leads from s to t, and u has the class of s.
   step-iff : (f : Role → Bool) (s t u : State b)
-      → T (f (role-at b i) && leads b i (s .0) (t .0) && same-class b (u .0) (s .0))
-      ↔ (T (f (role (machine b a) (observation b) e)) × machine b a .step e s t × (observation b .class u ≡ observation b .class s))
+      → T (f (role-at b (observer b) i) && leads b i (s .0) (t .0) && same-class (class b) (u .0) (s .0))
+      ↔ (T (f (role (machine b a) (observation b) e)) × machine b a .step e s
+      t × (observation b .class u ≡ observation b .class s))
   step-iff f s t u =
-      and-three-iff (f (role-at b i)) (leads b i (s .0) (t .0)) (same-class b (u .0) (s .0)) (role-iff b a e i p f) (steps s t) (class-iff b u s)
+      and-three-iff (f (role-at b (observer b) i)) (leads b i (s .0) (t .0)) (same-class (class b) (u .0) (s .0))
+      (role-iff b a e i p f) (steps s t) (class-iff b u s)
 
-  pub asks-iff : (r : Rule) (s t u : State b) → T (asks b r i (s .0) (t .0) (u .0)) ↔ Asks (machine b a) (observation b) r e s t u
+  pub asks-iff : (r : Rule) (s t u : State b)
+      → T (asks b (observer-of b) r i (s .0) (t .0) (u .0)) ↔ Asks (machine b a) (observation b) r e s t u
   unfolding asks
   asks-iff rule-1 s t u = role-iff b a e i p is-input
-  asks-iff rule-2 s t u = and-iff (is-high-input (role-at b i)) (leads b i (s .0) (t .0)) (role-iff b a e i p is-high-input) (steps s t)
+  asks-iff rule-2 s t u =
+      and-iff (is-high-input (role-at b (observer b) i)) (leads b i (s .0) (t .0)) (role-iff b a e i p is-high-input)
+      (steps s t)
   asks-iff rule-3 s t u = step-iff is-low-input s t u
   asks-iff rule-4 s t u = step-iff is-silent s t u
   asks-iff rule-5 s t u = step-iff is-low-action s t u
 
-  around-iff : (u v : State b) → T (around b i (u .0) (v .0)) ↔ Around (machine b a) (observation b) e u v
+  around-iff : (u v : State b) → T (around b (observer b) i (u .0) (v .0)) ↔ Around (machine b a) (observation b) e u v
   unfolding around
   around-iff u v =
       let n = states b in
       let w =
       any-both-iff n (reach b (u .0)) (λ x. any n (λ y. leads b i x y && reach b y (v .0))) (reach-silent b a u)
       (λ x. any-both-iff n (leads b i (x .0)) (λ y. reach b y (v .0)) (steps x) (λ y. reach-silent b a y v)) in (
-        λ t. let (x, before, (y, step, after)) = w .0 t in record { from = x; to = y; before = before; step = step; after = after },
+        λ t. let (x, before, (y, step, after)) = w .0 t in
+            record { from = x; to = y; before = before; step = step; after = after },
         λ r. w .1 (r .from, r .before, (r .to, r .step, r .after)),
       )
 
-  pub answers-iff : (r : Rule) (s t u : State b) → T (answers b r i (s .0) (t .0) (u .0)) ↔ Answers (machine b a) (observation b) r e s t u
+  pub answers-iff : (r : Rule) (s t u : State b)
+      → T (answers b (observer-of b) r i (s .0) (t .0) (u .0)) ↔ Answers (machine b a) (observation b) r e s t u
   unfolding answers
-  answers-iff rule-1 s t u = any-iff (states b) (leads b i (s .0)) (steps s)
+  answers-iff rule-1 s t u = any-iff _ _ (steps s)
   answers-iff rule-2 s t u = class-iff b t s
   answers-iff rule-3 s t u = in-class-iff b (leads b i (u .0)) (steps u) t
   answers-iff rule-4 s t u = in-class-iff b (reach b (u .0)) (reach-silent b a u) t
-  answers-iff rule-5 s t u = in-class-iff b (around b i (u .0)) (around-iff u) t
+  answers-iff rule-5 s t u = in-class-iff b (around b (observer b) i (u .0)) (around-iff u) t
 
-  pub broken-iff : (r : Rule) (s t u : State b) → T (broken b r i (s .0) (t .0) (u .0)) ↔ Broken (machine b a) (observation b) r e s t u
+  pub broken-iff : (r : Rule) (s t u : State b)
+      → T (broken b (observer-of b) r i (s .0) (t .0) (u .0)) ↔ Broken (machine b a) (observation b) r e s t u
   unfolding broken
   broken-iff r s t u =
-      let answer = answers b r i (s .0) (t .0) (u .0) in
-      and-iff (asks b r i (s .0) (t .0) (u .0)) (not answer) (asks-iff r s t u) (not-iff answer (answers-iff r s t u))
+      let answer = answers b (observer-of b) r i (s .0) (t .0) (u .0) in
+      and-iff (asks b (observer-of b) r i (s .0) (t .0) (u .0)) (not answer) (asks-iff r s t u)
+      (not-iff answer (answers-iff r s t u))
 
 -- ---- an event that is not in the record
 
@@ -94,7 +107,8 @@ module _ (b : List ℕ) (a : Accepted b) (e : ℕ) (p : place b e ≡ none) wher
   absent-asks rule-5 s t u h = never is-low-action (h .0)
 
 -- An event that is asked anything has a place.
-pub asked-placed : (b : List ℕ) (a : Accepted b) (r : Rule) (e : ℕ) (s t u : State b) → Asks (machine b a) (observation b) r e s t u
+pub asked-placed : (b : List ℕ) (a : Accepted b) (r : Rule) (e : ℕ) (s t u : State b)
+    → Asks (machine b a) (observation b) r e s t u
     → (i : ℕ) × (place b e ≡ some i)
 asked-placed b a r e s t u h = go (place b e) refl
   where

@@ -1,123 +1,139 @@
--- Where the states of a class offer the same, rules 3 to 5 are not broken: a state answers its own steps. Assumes nothing.
+-- Where the states of a class offer the same, rules 3 to 5 are not broken: a state answers its own steps.
 use Prim.Native.Nat.{ℕ, zero, suc, _≤_, _<_}
-use mathlib.Core.Path.{_≡_, refl, sym, ap, _∙_, subst}
-use mathlib.Core.Bool.{Bool, true, false, not, _||_, _&&_}
+use mathlib.Core.Path.{_≡_, refl, sym, ap, _∙_}
+use mathlib.Core.Bool.{Bool, true, _&&_}
 use mathlib.Core.List.{List}
 use mathlib.Core.Option.{none}
 use mathlib.Core.Logic.{⊎-elim}
 use native.Mathlib.Decide.{decLt}
 use native.Mathlib.Omega.{arith}
-use lib.Dec.{eqb, ltb}
-use lib.ListN.{getD}
+use lib.Dec.{eqb}
 use borrow.Author.Tests.{eq-eqb, lt-ltb}
 use Rattle.bounded.specs.Search.{any, first}
-use Rattle.bounded.proofs.Search.{any-at, first-none, first-nothing, or-now, or-then, and-now, not-refuted, true-or-false, true-not-false}
+use Rattle.bounded.proofs.Search.{any-at, first-none, first-nothing, or-now, or-then, and-now, not-refuted}
+use Rattle.bounded.proofs.Search.{true-or-false, true-not-false}
 use Rattle.machine.specs.Roles.{is-silent}
 use Rattle.words.specs.Sets.{bit}
 use Rattle.words.proofs.Sets.{bit-zero}
-use Rattle.part.specs.Record.{states, events, class}
-use Rattle.relations.specs.Relations.{role-at, leads, silent-step, via, reach, same-class, rule-at}
+use Rattle.part.specs.Record.{states, events, Observer}
+use Rattle.relations.specs.Relations.{role-at, leads, step-by, silent-step, via, reach-for, same-class, rule-at}
 use Rattle.restrictive.specs.Tests.{around}
 use Rattle.restrictive.specs.Verdict.{event-violation, rule-violation, first-violation}
-use Rattle.relations.specs.Sets.{concerns, Spoken, Alone, Even}
+use Rattle.relations.specs.Sets.{concerns, Concerned, AllDistinct, ClasswiseEqual}
 use Rattle.restrictive.specs.Sets.{led-to, reached, offer, Asked, Offers}
 use Rattle.restrictive.proofs.Offers.{broken-asked, not-led, none-at, none-by}
 
 -- ---- the closure of a state has the state, and where a silent step leads
 
-module _ (b : List ℕ) where
-  via-keeps : (k s t : ℕ) → via b 0 s t ≡ true → via b k s t ≡ true
+module _ (b : List ℕ) (l : ℕ) where
+  via-keeps : (k s t : ℕ) → via (silent-step b l) 0 s t ≡ true → via (silent-step b l) k s t ≡ true
   unfolding via
   via-keeps zero s t e = e
-  via-keeps (suc k) s t e = or-now (via b k s t) (via b k s k && via b k k t) (via-keeps k s t e)
+  via-keeps (suc k) s t e =
+      or-now _ _ (via-keeps k s t e)
 
-  pub reach-self : (s : ℕ) → reach b s s ≡ true
-  unfolding reach via
-  reach-self s = via-keeps (states b) s s (or-now (eqb s s) (silent-step b s s) (eq-eqb s s refl))
+  pub reach-self : (s : ℕ) → reach-for b l s s ≡ true
+  unfolding reach-for via
+  reach-self s = via-keeps (states b) s s (or-now _ _ (eq-eqb s s refl))
 
-  pub reach-step : (s t : ℕ) → silent-step b s t ≡ true → reach b s t ≡ true
-  unfolding reach via
+  pub reach-step : (s t : ℕ) → silent-step b l s t ≡ true → reach-for b l s t ≡ true
+  unfolding reach-for via
   reach-step s t e =
-      via-keeps (states b) s t (⊎-elim (λ p. or-now (eqb s t) (silent-step b s t) p) (λ p. or-then (eqb s t) (silent-step b s t) p ∙ e) (true-or-false (eqb s t)))
+      via-keeps (states b) s t
+      (⊎-elim
+      (λ p. or-now (eqb s t) (silent-step b l s t) p)
+      (λ p. or-then (eqb s t) (silent-step b l s t) p ∙ e)
+      (true-or-false (eqb s t)))
 
 -- ---- a state answers its own steps
 
-module _ (b : List ℕ) (i s t : ℕ) (hs : s < states b) (ht : t < states b) where
+module _ (b : List ℕ) (o : Observer) (i s t : ℕ) (hs : s < states b) (ht : t < states b) where
   -- a test that t passes, among the states of the class of t
-  at-class : (f : ℕ → Bool) → f t ≡ true → any (states b) (λ v. f v && eqb (class b v) (class b t)) ≡ true
-  at-class f e = any-at (λ v. f v && eqb (class b v) (class b t)) (states b) t ht (and-now (f t) (eqb (class b t) (class b t)) e ∙ eq-eqb (class b t) (class b t) refl)
+  at-class : (f : ℕ → Bool) → f t ≡ true → any (states b) (λ v. f v && eqb (o .class v) (o .class t)) ≡ true
+  at-class f e = any-at _ _ t ht (and-now _ _ e ∙ eq-eqb (o .class t) _ refl)
 
-  around-step : leads b i s t ≡ true → around b i s t ≡ true
+  around-step : leads b i s t ≡ true → around b (o .level) i s t ≡ true
   unfolding around
   around-step e =
-      let last = any-at (λ q. leads b i s q && reach b q t) (states b) t ht (and-now (leads b i s t) (reach b t t) e ∙ reach-self b t) in
-      any-at (λ p. reach b s p && any (states b) (λ q. leads b i p q && reach b q t)) (states b) s hs
-      (and-now (reach b s s) (any (states b) (λ q. leads b i s q && reach b q t)) (reach-self b s) ∙ last)
+      let last = any-at _ _ t ht (and-now _ _ e ∙ reach-self b _ t) in
+      any-at _ _ s hs
+      (and-now _ _ (reach-self b _ s) ∙ last)
 
-  silent-there : i < events b → is-silent (role-at b i) ≡ true → leads b i s t ≡ true → silent-step b s t ≡ true
-  unfolding silent-step
-  silent-there l r e = any-at (λ j. is-silent (role-at b j) && leads b j s t) (events b) i l (and-now (is-silent (role-at b i)) (leads b i s t) r ∙ e)
+  silent-there : i < events b → is-silent (role-at b (o .level) i) ≡ true → leads b i s t ≡ true
+      → silent-step b (o .level) s t ≡ true
+  unfolding silent-step step-by
+  silent-there l r e = any-at _ _ i l (and-now _ _ r ∙ e)
 
-  own-offer : (k : ℕ) → 2 ≤ k → k < 5 → i < events b → Asked b k i s t → offer b (rule-at k) i s (class b t) ≡ true
+  own-offer : (k : ℕ) → 2 ≤ k → k < 5 → i < events b → Asked b (o .level) k i s t
+      → offer b o (rule-at k) i s (o .class t) ≡ true
   unfolding offer rule-at led-to reached
   own-offer zero h l p a = absurd (omega arith)
   own-offer (suc zero) h l p a = absurd (omega arith)
   own-offer (suc (suc zero)) h l p a = at-class (leads b i s) (a .1)
-  own-offer (suc (suc (suc zero))) h l p a = at-class (reach b s) (reach-step b s t (silent-there p (a .0) (a .1)))
-  own-offer (suc (suc (suc (suc zero)))) h l p a = at-class (around b i s) (around-step (a .1))
+  own-offer (suc (suc (suc zero))) h l p a =
+      at-class (reach-for b (o .level) s) (reach-step b _ s t (silent-there p (a .0) (a .1)))
+  own-offer (suc (suc (suc (suc zero)))) h l p a = at-class (around b (o .level) i s) (around-step (a .1))
   own-offer (suc (suc (suc (suc (suc k))))) h l p a = absurd (omega arith)
 
 -- ---- where the states of a class offer the same
 
-module _ (b : List ℕ) (k i : ℕ) (h : 2 ≤ k) (l : k < 5) (placed : i < events b) where
-  same-none : concerns (rule-at k) (role-at b i) ≡ true
-      → ((s u c : ℕ) → s < states b → u < states b → same-class b u s ≡ true → offer b (rule-at k) i u c ≡ offer b (rule-at k) i s c)
-      → event-violation b k i ≡ none
+module _ (b : List ℕ) (o : Observer) (k i : ℕ) (h : 2 ≤ k) (l : k < 5) (placed : i < events b) where
+  same-none : concerns (rule-at k) (role-at b (o .level) i) ≡ true
+      → ((s u c : ℕ) → s < states b → u < states b → same-class (o .class) u s ≡ true
+      → offer b o (rule-at k) i u c ≡ offer b o (rule-at k) i s c)
+      → event-violation b o k i ≡ none
   unfolding event-violation
   same-none speaks same =
-      first-nothing _ (states b) (λ s hs.
-      none-at b k i s (λ t u ht hu.
+      first-nothing _ _ (λ s hs.
+      none-at b o k i s (λ t u ht hu.
       ⊎-elim
       (λ e.
-      broken-asked b k i s t u h l (speaks, e)
-      ∙ not-refuted (same-class b u s) (offer b (rule-at k) i u (class b t)) (λ q. same s u (class b t) hs hu q ∙ own-offer b i s t hs ht k h l placed (speaks, e)))
-      (λ e. not-led b k i s t u (omega arith) l speaks e)
-      (true-or-false (leads b i s t))))
+      broken-asked b o k i s t u h l (speaks, e)
+      ∙ not-refuted _ _ (λ q. same s u (o .class t) hs hu q ∙ own-offer b o i s t hs ht k h l placed (speaks, e)))
+      (λ e. not-led b o k i s t u (omega arith) l speaks e)
+      (true-or-false _)))
 
   -- the arrays say so
-  pub even-none : (offers : List ℕ) → concerns (rule-at k) (role-at b i) ≡ true → Offers b k i offers → Even b offers → event-violation b k i ≡ none
-  even-none offers speaks o even =
-      same-none speaks (λ s u c hs hu q. sym (o u hu c) ∙ ap (λ (x : ℕ). bit x c) (even s u hs hu q) ∙ o s hs c)
+  pub equal-none : (offers : List ℕ) → concerns (rule-at k) (role-at b (o .level) i) ≡ true → Offers b o k i offers
+      → ClasswiseEqual (states b) (o .class) offers → event-violation b o k i ≡ none
+  equal-none offers speaks offering equal =
+      same-none speaks (λ s u c hs hu q. sym (offering u hu c) ∙ ap (λ (x : ℕ). bit x c) (equal s u hs hu q)
+      ∙ offering s hs c)
 
-  alone-none : concerns (rule-at k) (role-at b i) ≡ true → Alone b → event-violation b k i ≡ none
-  alone-none speaks alone = same-none speaks (λ s u c hs hu q. ap (λ (v : ℕ). offer b (rule-at k) i v c) (alone s u hs hu q))
+  distinct-none : concerns (rule-at k) (role-at b (o .level) i) ≡ true → AllDistinct (states b) (o .class)
+      → event-violation b o k i ≡ none
+  distinct-none speaks distinct =
+      same-none speaks (λ s u c hs hu q. ap (λ (v : ℕ). offer b o (rule-at k) i v c) (distinct s u hs hu q))
 
 -- ---- a rule that no event breaks
 
-pub rule-none : (b : List ℕ) (k : ℕ) → k < 5 → ((i : ℕ) → i < events b → concerns (rule-at k) (role-at b i) ≡ true → event-violation b k i ≡ none)
-    → rule-violation b k ≡ none
+pub rule-none : (b : List ℕ) (o : Observer) (k : ℕ) → k < 5
+    → ((i : ℕ) → i < events b → concerns (rule-at k) (role-at b (o .level) i) ≡ true → event-violation b o k i ≡ none)
+    → rule-violation b o k ≡ none
 unfolding rule-violation
-rule-none b k l f =
-    first-nothing (event-violation b k) (events b) (λ i h.
-    ⊎-elim (λ e. f i h e) (λ e. none-by b k i l e) (true-or-false (concerns (rule-at k) (role-at b i))))
+rule-none b o k l f =
+    first-nothing _ _ (λ i h.
+    ⊎-elim (λ e. f i h e) (λ e. none-by b o k i l e) (true-or-false _))
 
 -- No event that it speaks of.
-pub unspoken : (b : List ℕ) (k word : ℕ) → k < 5 → Spoken b k word → word ≡ 0 → rule-violation b k ≡ none
-unspoken b k word l of e =
-    rule-none b k l (λ i h speaks.
-    let there : bit word i ≡ true = of i ∙ and-now (ltb i (events b)) (concerns (rule-at k) (role-at b i)) (lt-ltb _ _ h) ∙ speaks in
+pub unspoken : (b : List ℕ) (o : Observer) (k word : ℕ) → k < 5 → Concerned b (o .level) k word → word ≡ 0
+    → rule-violation b o k ≡ none
+unspoken b o k word l of e =
+    rule-none b o k l (λ i h speaks.
+    let there : bit word i ≡ true = of i ∙ and-now _ _ (lt-ltb _ _ h) ∙ speaks in
     absurd (true-not-false there (ap (λ (x : ℕ). bit x i) e ∙ bit-zero i)))
 
-pub no-events : (b : List ℕ) → events b ≡ 0 → first-violation b ≡ none
+pub no-events : (b : List ℕ) (o : Observer) → events b ≡ 0 → first-violation b o ≡ none
 unfolding first-violation
-no-events b e = first-nothing (rule-violation b) 5 (λ k l. rule-none b k l (λ i h. absurd (omega arith)))
+no-events b o e = first-nothing _ 5 (λ k l. rule-none b o k l (λ i h. absurd (omega arith)))
 
 -- Where no two states share a class, rules 1 and 2 decide.
-pub alone-rules : (b : List ℕ) → first 2 (rule-violation b) ≡ none → Alone b → first-violation b ≡ none
+pub distinct-rules : (b : List ℕ) (o : Observer) → first 2 (rule-violation b o) ≡ none
+    → AllDistinct (states b) (o .class) → first-violation b o ≡ none
 unfolding first-violation
-alone-rules b two alone =
-    first-nothing (rule-violation b) 5 (λ k l.
+distinct-rules b o two distinct =
+    first-nothing _ 5 (λ k l.
     elim (decLt k 2) [
-      | yes h ↦ first-none (rule-violation b) 2 two k h
-      | no h ↦ rule-none b k l (λ i p speaks. alone-none b k i (omega arith) l p speaks alone)
+      | yes h ↦ first-none _ 2 two k h
+      | no h ↦ rule-none b o k l (λ i p speaks. distinct-none b o k i (omega arith) l p speaks distinct)
     ])

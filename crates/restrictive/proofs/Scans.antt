@@ -1,11 +1,10 @@
--- Loops that look for the first violation: one place after another, or the members of a word from the lowest on. Assumes nothing.
+-- Loops that look for the first violation: one place after another, or the members of a word from the lowest on.
 use Prim.Native.Nat.{ℕ, _+_, _<_, _^_}
 use mathlib.Core.Path.{_≡_, sym, ap, _∙_, subst}
 use mathlib.Core.Bool.{true, false, not}
 use mathlib.Core.Option.{Option, none}
 use native.Mathlib.Decide.{ℕ-discrete}
 use native.Mathlib.Omega.{arith}
-use lib.Dec.{eqb}
 use borrow.Author.Tests.{ne-eqb}
 use native.Mathlib.Numerals.{add-one}
 use Rattle.bounded.specs.Search.{first, or-else}
@@ -16,22 +15,24 @@ use Rattle.restrictive.specs.declared.answer.Violation.{Violation}
 use Rattle.restrictive.specs.declared.answer.Found.{Found}
 use Rattle.restrictive.specs.declared.answer.Found.the-variants.{At, Nothing}
 use Rattle.restrictive.specs.Verdict as plain
-use Rattle.restrictive.specs.Answers.{named, shows}
+use Rattle.restrictive.specs.Answers.{violation-of}
+use Rattle.restrictive.specs.Found.{found-of}
 
 -- It returns what it finds at i, or goes on.
-module _ (f : ℕ → Option plain.Violation) (i : ℕ) (r : Found) (seen : shows r ≡ f i) (before : first i f ≡ none) where
-  pub found-first : (n : ℕ) (v : Violation) → r ≡ At v → i < n → shows r ≡ first n f
-  unfolding shows
-  found-first n v e h = ap shows e ∙ sym (first-hit f n i (named v) h before (sym seen ∙ ap shows e))
+module _ (f : ℕ → Option plain.Violation) (i : ℕ) (r : Found) (seen : found-of r ≡ f i) (before : first i f ≡ none)
+  where
+    pub found-first : (n : ℕ) (v : Violation) → r ≡ At v → i < n → found-of r ≡ first n f
+    unfolding found-of
+    found-first n v e h = ap found-of e ∙ sym (first-hit f n i (violation-of v) h before (sym seen ∙ ap found-of e))
 
-  pub nothing-more : r ≡ Nothing → first (i + 1) f ≡ none
-  unfolding shows
-  nothing-more e = first-more f i before (sym seen ∙ ap shows e)
+    pub nothing-more : r ≡ Nothing → first (i + 1) f ≡ none
+    unfolding found-of
+    nothing-more e = first-more f i before (sym seen ∙ ap found-of e)
 
-  -- the last place of the search
-  pub found-last : shows r ≡ first (i + 1) f
-  unfolding first or-else
-  found-last = rw (add-one i) (rw before seen)
+    -- the last place of the search
+    pub found-last : found-of r ≡ first (i + 1) f
+    unfolding first or-else
+    found-last = rw (add-one i) (rw before seen)
 
 -- The same over the members of a word, lowest first: those that are left, and nothing found at the others.
 module _ (m word : ℕ) (f : ℕ → Option plain.Violation) where
@@ -45,26 +46,28 @@ module _ (m word : ℕ) (f : ℕ → Option plain.Violation) where
 
   module _ (rest : ℕ) (left : Left rest) (some-left : rest ≡ 0 → ⊥) where
     pub left-lowest : bit word (lowest rest) ≡ true
-    left-lowest = left .inside (lowest rest) (lowest-member rest (left .small) some-left .member)
+    left-lowest = left .inside (lowest rest) (lowest-member _ (left .small) some-left .member)
 
     before-lowest : lowest rest < m → first (lowest rest) f ≡ none
-    before-lowest h = first-nothing f (lowest rest) (λ j l. left .nothing j (omega arith) (lowest-member rest (left .small) some-left .least j l))
+    before-lowest h =
+        first-nothing f _ (λ j l. left .nothing j (omega arith) (lowest-member _ (left .small) some-left .least j l))
 
-    pub left-found : (r : Found) (v : Violation) → shows r ≡ f (lowest rest) → r ≡ At v → lowest rest < m → shows r ≡ first m f
-    left-found r v seen e h = found-first f (lowest rest) r seen (before-lowest h) m v e h
+    pub left-found : (r : Found) (v : Violation) → found-of r ≡ f (lowest rest) → r ≡ At v → lowest rest < m
+        → found-of r ≡ first m f
+    left-found r v seen e h = found-first f _ r seen (before-lowest h) m v e h
 
-    pub left-next : (r : Found) → shows r ≡ f (lowest rest) → r ≡ Nothing → Left (without rest (lowest rest))
-    unfolding shows
+    pub left-next : (r : Found) → found-of r ≡ f (lowest rest) → r ≡ Nothing → Left (without rest (lowest rest))
+    unfolding found-of
     left-next r seen e =
-        let member = lowest-member rest (left .small) some-left .member in
+        let member = lowest-member _ (left .small) some-left .member in
         record {
           small = let le = without-le rest (lowest rest) in let s = left .small in omega arith;
-          inside = λ i p. left .inside i (and-left (bit rest i) (not (eqb (lowest rest) i)) (sym (bit-without rest (lowest rest) i member) ∙ p));
+          inside = λ i p. left .inside i (and-left _ _ (sym (bit-without _ _ i member) ∙ p));
           nothing = λ i h p.
               elim (ℕ-discrete (lowest rest) i) [
-                | yes q ↦ subst (λ (j : ℕ). f j ≡ none) q (sym seen ∙ ap shows e)
-                | no d ↦ left .nothing i h (is-false (bit rest i) (λ t.
-                    true-not-false (bit-without rest (lowest rest) i member ∙ and-now (bit rest i) (not (eqb (lowest rest) i)) t ∙ ap not (ne-eqb (lowest rest) i d)) p))
+                | yes q ↦ subst (λ (j : ℕ). f j ≡ none) q (sym seen ∙ ap found-of e)
+                | no d ↦ left .nothing i h (is-false _ (λ t.
+                    true-not-false (bit-without _ _ i member ∙ and-now _ _ t ∙ ap not (ne-eqb _ i d)) p))
               ];
         }
 

@@ -1,4 +1,4 @@
--- The verdict of a record is what its machine is: the statements of specs/Theorems.antt. Assumes nothing.
+-- The verdict of a record is what its machine is: the statements of specs/Theorems.antt.
 use Prim.Native.Nat.{ℕ, zero, suc, _≤_, _<_}
 use mathlib.Core.Path.{_≡_, refl, sym, ap, _∙_, subst}
 use mathlib.Core.List.{List, [], _∷_}
@@ -8,15 +8,16 @@ use native.Mathlib.Omega.{arith}
 use Rattle.bounded.proofs.Search.{true-or-false}
 use Rattle.machine.specs.Rules.{Rule, rule-1, rule-2, rule-3, rule-4, rule-5, Restrictive}
 use Rattle.machine.proofs.Noninterference.{restrictive-hides}
-use Rattle.part.specs.Record.{identifier}
-use Rattle.part.specs.Rejections.{Condition, conditions, first-of, rejection, Accepted}
+use Rattle.part.specs.Record.{observer-of}
+use Rattle.part.specs.Rejections.{Condition, first-of, rejection, Accepted}
 use Rattle.part.specs.Machine.{machine, observation}
 use Rattle.part.proofs.Accepted.{skip, hit, rejection-none}
 use Rattle.part.proofs.Places.{places}
 use Rattle.part.proofs.Ranges.{ranges}
 use Rattle.restrictive.specs.Tests.{answers}
 use Rattle.relations.specs.Relations.{rule-at}
-use Rattle.restrictive.specs.Verdict.{Violation, pass, refused, first-violation, by-rules, after-rejection, breaks, verdict}
+use Rattle.restrictive.specs.Verdict.{Violation, pass, refused, first-violation, by-rules, after-rejection}
+use Rattle.restrictive.specs.Verdict.{breaks, verdict}
 use lib.ListN.{getD}
 use Rattle.restrictive.specs.Theorems.{
   PassesExactly,
@@ -30,7 +31,7 @@ use Rattle.restrictive.specs.Theorems.{
   BreaksExactly,
   PassingHides,
 }
-use Rattle.restrictive.proofs.Truth.{Below, not-not}
+use Rattle.bounded.proofs.Truth.{Below, not-not}
 use Rattle.restrictive.proofs.Reflect.{answers-iff, broken-iff, asked-placed}
 use Rattle.restrictive.proofs.First.{Finds, finds-as, IsViolation, finds-violation}
 
@@ -63,7 +64,7 @@ in-order-same v w e =
 -- ---- the violations that the tests show are the breaks of the machine
 
 module _ (b : List ℕ) (a : Accepted b) where
-  names-iff : (v : Violation) → IsViolation b v ↔ Names b a v
+  names-iff : (v : Violation) → IsViolation b (observer-of b) v ↔ Names b a v
   names-iff v = (
     λ (k, (i, (s, (t, (u, (c, q)))))).
         subst (Names b a) q (record {
@@ -71,31 +72,32 @@ module _ (b : List ℕ) (a : Accepted b) where
           s = s;
           t = t;
           u = u;
-          as-named = rw (rule-at-number (k .0) (k .1));
-          is-broken = broken-iff b a (identifier b (i .0)) (i .0) (places b a .found (i .0) (i .1)) (rule-at (k .0)) s t u .0 c;
+          as-named = rw (rule-at-number _ (k .1));
+          is-broken = broken-iff b a _ _ (places b a .found (i .0) (i .1)) _ s t u .0 c;
         }),
     λ w.
         let r = w .the-rule in
-        let (i, p) = asked-placed b a r (v .event) (w .s) (w .t) (w .u) (w .is-broken .0) in
+        let (i, p) = asked-placed b a r _ _ _ _ (w .is-broken .0) in
         let (k, at, number) = rule-place r in
         let (h, event) = places b a .stands (v .event) i p in
-        let c = broken-iff b a (v .event) i p r (w .s) (w .t) (w .u) .1 (w .is-broken) in
+        let c = broken-iff b a _ i p r _ _ _ .1 (w .is-broken) in
         (k, ((i, h), (w .s, (w .t, (w .u, (rw at c, in-order-same _ v (cc))))))),
   )
 
   -- The search for the first violation is one for the first break.
-  finds-break : Finds in-order (Names b a) (first-violation b)
-  finds-break = finds-as names-iff (finds-violation b (ranges b a .identifiers-rise))
+  finds-break : Finds in-order (Names b a) (first-violation b (observer-of b))
+  finds-break = finds-as names-iff (finds-violation b (observer-of b) (ranges b a .identifiers-rise))
 
   -- It finds nothing exactly if the machine is restrictive.
-  restrictive-iff : (first-violation b ≡ none) ↔ Restrictive (machine b a) (observation b)
+  restrictive-iff : (first-violation b (observer-of b) ≡ none) ↔ Restrictive (machine b a) (observation b)
   restrictive-iff = (
     λ q r e s t u h.
         let (i, p) = asked-placed b a r e s t u h in
-        not-not (answers b r i (s .0) (t .0) (u .0)) (answers-iff b a e i p r s t u) (λ n.
+        not-not (answers b (observer-of b) r i (s .0) (t .0) (u .0)) (answers-iff b a e i p r s t u) (λ n.
         finds-break .nothing .0 q (record { rule = rule-number r; event = e; s = s .0; t = t .0; u = u .0 })
         (record { the-rule = r; s = s; t = t; u = u; as-named = refl; is-broken = (h, n) })),
-    λ R. finds-break .nothing .1 (λ v w. w .is-broken .1 (R (w .the-rule) (v .event) (w .s) (w .t) (w .u) (w .is-broken .0))),
+    λ R. finds-break .nothing .1
+        (λ v w. w .is-broken .1 (R (w .the-rule) (v .event) (w .s) (w .t) (w .u) (w .is-broken .0))),
   )
 
 -- ---- the first rejection
@@ -111,8 +113,8 @@ module _ (b : List ℕ) where
       (true-or-false (c .holds b))
 
   holding-first : {cs : List Condition} {k : ℕ} → FirstHolding b cs k → first-of cs b ≡ some k
-  holding-first (here {c = c} {cs = cs} t) = hit c cs b t
-  holding-first (later {c = c} {cs = cs} f h) = skip c cs b f ∙ holding-first h
+  holding-first (here {c = c} {cs = cs} t) = hit c _ b t
+  holding-first (later {c = c} {cs = cs} f h) = skip c _ b f ∙ holding-first h
 
 -- ---- the verdict
 
@@ -129,7 +131,7 @@ not-refused k none e = let z : _≡_ {A = ℕ} 0 1 = cc in omega arith
 not-refused k (some v) e = let z : _≡_ {A = ℕ} 0 1 = cc in omega arith
 
 module _ (b : List ℕ) where
-  accepted : Accepted b → verdict b ≡ by-rules (first-violation b)
+  accepted : Accepted b → verdict b ≡ by-rules (first-violation b (observer-of b))
   unfolding verdict after-rejection
   accepted a = rw (rejection-none b .1 a)
 
@@ -144,11 +146,12 @@ module _ (b : List ℕ) where
       go none p = inl (rejection-none b .0 p)
       go (some k) p = inr (k, p)
 
-  by-rules-iff : (o : Option Violation) → (verdict b ≡ by-rules o) ↔ (Accepted b × (first-violation b ≡ o))
+  by-rules-iff : (o : Option Violation)
+      → (verdict b ≡ by-rules o) ↔ (Accepted b × (first-violation b (observer-of b) ≡ o))
   by-rules-iff o = (
     λ e.
         ⊎-elim
-        (λ a. (a, by-rules-same (first-violation b) o (sym (accepted a) ∙ e)))
+        (λ a. (a, by-rules-same _ o (sym (accepted a) ∙ e)))
         (λ (k, p). absurd (not-refused k o (sym e ∙ rejected k p)))
         either,
     λ (a, q). accepted a ∙ ap by-rules q,
@@ -157,15 +160,15 @@ module _ (b : List ℕ) where
 pub passes-exactly : PassesExactly
 unfolding by-rules
 passes-exactly b = (
-  λ e. let (a, q) = by-rules-iff b none .0 e in (a, restrictive-iff b a .0 q),
-  λ (a, R). by-rules-iff b none .1 (a, restrictive-iff b a .1 R),
+  λ e. let (a, q) = by-rules-iff b _ .0 e in (a, restrictive-iff b a .0 q),
+  λ (a, R). by-rules-iff b _ .1 (a, restrictive-iff b a .1 R),
 )
 
 pub breaks-exactly : BreaksExactly
 unfolding by-rules
 breaks-exactly b v = (
-  λ e. let (a, q) = by-rules-iff b (some v) .0 e in let (n, c) = finds-break b a .something v .0 q in (a, n, c),
-  λ (a, n, c). by-rules-iff b (some v) .1 (a, finds-break b a .something v .1 (n, c)),
+  λ e. let (a, q) = by-rules-iff b _ .0 e in let (n, c) = finds-break b a .something v .0 q in (a, n, c),
+  λ (a, n, c). by-rules-iff b _ .1 (a, finds-break b a .something v .1 (n, c)),
 )
 
 pub refused-exactly : RefusedExactly
@@ -173,8 +176,8 @@ unfolding rejection
 refused-exactly b k = (
   λ e.
       ⊎-elim
-      (λ a. absurd (not-refused k (first-violation b) (sym (accepted b a) ∙ e)))
-      (λ (j, p). first-holding b conditions k (let q = rejected b j p in cc))
+      (λ a. absurd (not-refused k _ (sym (accepted b a) ∙ e)))
+      (λ (j, p). first-holding b _ k (let q = rejected b j p in cc))
       (either b),
   λ h. rejected b k (holding-first b h),
 )
@@ -182,7 +185,7 @@ refused-exactly b k = (
 -- For any proof that no rejection applies.
 pub passing-restrictive : (b : List ℕ) (a : Accepted b) → verdict b ≡ pass → Restrictive (machine b a) (observation b)
 unfolding by-rules
-passing-restrictive b a e = restrictive-iff b a .0 (by-rules-iff b none .0 e .1)
+passing-restrictive b a e = restrictive-iff b a .0 (by-rules-iff b _ .0 e .1)
 
 pub passing-hides : PassingHides
 passing-hides b a e = restrictive-hides _ _ _ (passing-restrictive b a e)

@@ -1,32 +1,38 @@
--- The verdict by its parts: from the rejection and from the first violation; and what an accepted record gives to the rules. Assumes nothing.
+-- The verdict by its parts: from the rejection and from the first violation; and what an accepted record gives to the
+-- rules.
 use Prim.Native.Nat.{ℕ}
 use mathlib.Core.Path.{_≡_, ap, _∙_}
 use mathlib.Core.List.{List}
 use mathlib.Core.Option.{Option, none, some}
 use native.Mathlib.Omega.{arith}
 use Rattle.words.proofs.Sets.{within-members}
-use Rattle.part.specs.Record.{states, row, Framed}
+use Rattle.part.specs.Record.{column, observer-of}
 use Rattle.part.specs.Rejections.{rejection}
 use Rattle.part.proofs.Accepted.{rejection-none}
-use Rattle.part.proofs.Ranges.{ranges, frame, row-within}
-use Rattle.relations.specs.Sets.{RowsWithin, ClassesBelow}
+use Rattle.part.proofs.Ranges.{ranges, frame, column-length, row-within}
+use Rattle.relations.specs.Sets.{Sound}
 use Rattle.restrictive.specs.Verdict.{Violation, refused, by-rules, after-rejection, first-violation, verdict}
 
 pub refused-verdict : (b : List ℕ) (k : ℕ) → rejection b ≡ some k → verdict b ≡ refused k
 unfolding verdict after-rejection
 refused-verdict b k e = ap (λ (o : Option ℕ). after-rejection o b) e
 
-pub rules-verdict : (b : List ℕ) (o : Option Violation) → rejection b ≡ none → first-violation b ≡ o → verdict b ≡ by-rules o
+pub rules-verdict : (b : List ℕ) (o : Option Violation) → rejection b ≡ none → first-violation b (observer-of b) ≡ o
+    → verdict b ≡ by-rules o
 unfolding verdict after-rejection
 rules-verdict b o e f = ap (λ (r : Option ℕ). after-rejection r b) e ∙ ap by-rules f
 
 -- What the rules need of an accepted record.
-pub ready : (b : List ℕ) → rejection b ≡ none → Framed b × (RowsWithin b × ClassesBelow b)
+pub ready : (b : List ℕ) → rejection b ≡ none → Sound b (column b)
 ready b e =
-    let a = rejection-none b .0 e in (
-      frame b a,
-      (
-        λ i s t h l m. within-members (states b) (row b i s) (row-within b a i s h l) t m,
-        λ s h. omega (arith, ranges b a .class-below s h, ranges b a .most-states),
-      ),
-    )
+    let a = rejection-none b .0 e in
+    let size = column-length b a in
+    record {
+      framed = frame b a;
+      within = λ i s t h l m. within-members _ _ (row-within b a i s h l) t m;
+      sized = size;
+      partition = record {
+        few = omega (arith, frame b a .most-states);
+        below = λ s h. omega (arith, ranges b a .class-below s (omega arith), ranges b a .most-states);
+      };
+    }

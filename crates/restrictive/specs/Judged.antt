@@ -9,14 +9,14 @@ use Rattle.words.specs.Sets.{bit}
 use Rattle.level.specs.Level.{rank, at-or-below, low}
 use Rattle.part.specs.Record.{observer}
 use Rattle.part.specs.Computed.{rejected-with}
-use Rattle.part.specs.Machine.{kind-of}
-use Rattle.relations.specs.Relations.{role-at, leads, same-class, silent-step, via, reach, rule-at}
+use Rattle.part.specs.Events.{kind-of}
+use Rattle.relations.specs.Relations.{role-at, leads, same-class, step-by, silent-step, via, reach-for, rule-at}
 use Rattle.restrictive.specs.Tests.{around, asks, answers, broken}
 use Rattle.restrictive.specs.Verdict.{Violation, Verdict, pass, refused, breaks, violation-at, state-violation, event-violation, rule-violation, first-violation, by-rules, after-rejection, verdict}
 
 -- The verdict, computed.
 unfoldable pub judged : List ℕ → Verdict
-unfolding rejected-with verdict after-rejection by-rules first-violation rule-violation event-violation state-violation violation-at rule-at broken answers asks around reach via silent-step same-class leads role-at role-of at-level kind-of observer all first or-else bit low at-or-below rank
+unfolding rejected-with verdict after-rejection by-rules first-violation rule-violation event-violation state-violation violation-at rule-at broken answers asks around reach-for via silent-step step-by same-class leads role-at role-of at-level kind-of observer all first or-else bit low at-or-below rank
 judged b = verdict b
 
 abbrev pub same-violation : Violation → Violation → Bool

@@ -5,7 +5,7 @@ use mathlib.Core.Bool.{cond}
 use mathlib.Core.List.{List}
 use mathlib.Core.Option.{Option, none, some}
 use Rattle.bounded.specs.Search.{first}
-use Rattle.part.specs.Record.{states, events, identifier}
+use Rattle.part.specs.Record.{states, events, identifier, Observer, observer-of}
 use Rattle.part.specs.Rejections.{rejection}
 use Rattle.relations.specs.Relations.{rule-at}
 use Rattle.restrictive.specs.Tests.{broken}
@@ -24,22 +24,22 @@ pub data Verdict : Type 0 where
   breaks : Violation → Verdict
 
 -- The violation of a rule by the event at place i at s, t, u, where it is one.
-unfoldable pub violation-at : List ℕ → ℕ → ℕ → ℕ → ℕ → ℕ → Option Violation
-violation-at b k i s t u =
-    cond (broken b (rule-at k) i s t u) (some (record { rule = suc k; event = identifier b i; s = s; t = t; u = u })) none
+unfoldable pub violation-at : List ℕ → Observer → ℕ → ℕ → ℕ → ℕ → ℕ → Option Violation
+violation-at b o k i s t u =
+    cond (broken b o (rule-at k) i s t u) (some (record { rule = suc k; event = identifier b i; s = s; t = t; u = u })) none
 
 -- The first at a state s, of an event, of a rule, of the record.
-unfoldable pub state-violation : List ℕ → ℕ → ℕ → ℕ → Option Violation
-state-violation b k i s = first (states b) (λ t. first (states b) (violation-at b k i s t))
+unfoldable pub state-violation : List ℕ → Observer → ℕ → ℕ → ℕ → Option Violation
+state-violation b o k i s = first (states b) (λ t. first (states b) (violation-at b o k i s t))
 
-unfoldable pub event-violation : List ℕ → ℕ → ℕ → Option Violation
-event-violation b k i = first (states b) (state-violation b k i)
+unfoldable pub event-violation : List ℕ → Observer → ℕ → ℕ → Option Violation
+event-violation b o k i = first (states b) (state-violation b o k i)
 
-unfoldable pub rule-violation : List ℕ → ℕ → Option Violation
-rule-violation b k = first (events b) (event-violation b k)
+unfoldable pub rule-violation : List ℕ → Observer → ℕ → Option Violation
+rule-violation b o k = first (events b) (event-violation b o k)
 
-unfoldable pub first-violation : List ℕ → Option Violation
-first-violation b = first 5 (rule-violation b)
+unfoldable pub first-violation : List ℕ → Observer → Option Violation
+first-violation b o = first 5 (rule-violation b o)
 
 -- The verdict by the rules alone.
 unfoldable pub by-rules : Option Violation → Verdict
@@ -47,7 +47,7 @@ by-rules none = pass
 by-rules (some v) = breaks v
 
 unfoldable pub after-rejection : Option ℕ → List ℕ → Verdict
-after-rejection none b = by-rules (first-violation b)
+after-rejection none b = by-rules (first-violation b (observer-of b))
 after-rejection (some k) b = refused k
 
 unfoldable pub verdict : List ℕ → Verdict

@@ -1,4 +1,4 @@
-// The answers of Check. specs/Answers.antt gives each its meaning.
+// The answers of Check, and the cases that it judges. specs/Answers.antt gives each answer its meaning.
 use part::Rejection;
 
 // A violation of a rule (document 01: a break): the rule's number, the event's identifier, and the states s, t, u.
@@ -20,4 +20,11 @@ pub enum Verdict {
     Pass,
     Refused(Rejection),
     Break(Violation),
+}
+
+// One event under one rule, for an observer: the rule counted from 0, the event's place, the observer's level.
+pub struct Case {
+    pub rule: usize,
+    pub event: usize,
+    pub observer: u8,
 }

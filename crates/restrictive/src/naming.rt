@@ -1,73 +1,76 @@
-// The first violation by an event, searched for in the order of the states. The sets say where there is one.
+// The first violation in a case, searched for in the order of the states. The sets say where there is one.
 ghost use mathlib.Core.Path.{_≡_};
-ghost use Prim.Native.Nat.{suc, _<_, _≤_};
+ghost use Prim.Native.Nat.{ℕ, suc, _<_, _≤_};
 ghost use mathlib.Core.Bool.{true, not, _&&_};
 ghost use mathlib.Core.Logic.{_↔_};
-ghost use lib.ListN.{getD};
+ghost use lib.ListN.{length, getD};
 ghost use Rattle.bounded.specs.Search.{first};
-ghost use Rattle.part.specs.Record.{states, events, class, identifier, row, Framed};
-ghost use Rattle.relations.specs.Relations.{role-at, same-class, rule-at};
-ghost use Rattle.relations.specs.Sets.{concerns, ClassesBelow, RowsWithin};
-ghost use Rattle.restrictive.specs.Sets.{Enabled, Offers, Weighed, Asked};
-ghost use Rattle.restrictive.specs.Verdict.{violation-at, state-violation, event-violation};
-ghost use Rattle.restrictive.specs.Answers.{named, shows};
+ghost use Rattle.words.specs.LittleEndian.{byte};
 ghost use Rattle.words.specs.Sets.{bit};
+ghost use Rattle.part.specs.Record.{states, events, identifier, row};
+ghost use Rattle.part.specs.Frame.{Framed};
+ghost use Rattle.relations.specs.Relations.{role-at, same-class, rule-at};
+ghost use Rattle.relations.specs.Sets.{Partition, Sound, concerns};
+ghost use Rattle.restrictive.specs.Sets.{Enabled, Offers, observer-in, Judgeable, Asked};
+ghost use Rattle.restrictive.specs.Verdict.{violation-at, state-violation, event-violation};
+ghost use Rattle.restrictive.specs.Answers.{violation-of};
+ghost use Rattle.restrictive.specs.Found.{found-of};
+use crate::answer::Case;
 use crate::answer::Found;
 use crate::answer::Violation;
 use part::Part;
+use relations::event::RULE_2;
+use words::le;
 use words::set;
 
-// A violation of rule k + 1 by the event at place i.
-fn violation(b: &[u8], k: usize, i: usize, s: usize, t: usize, u: usize) -> Violation
+// The violation in a case at s, t, u.
+fn violation(b: &[u8], case: Case, s: usize, t: usize, u: usize) -> Violation
     requires { ⌜ Framed (now b) ⌝ }
-    requires { ⌜ i < events (now b) ⌝ }
-    requires { ⌜ k < 5 ⌝ }
-    ensures { λ r. ⌜ named r ≡ record { rule = suc k; event = identifier (now (b .entry)) i; s = s; t = t; u = u } ⌝ }
+    requires { ⌜ (case .event < events (now b)) × (case .rule < 5) ⌝ }
+    ensures { λ r. ⌜ violation-of r ≡ record { rule = suc (case .rule); event = identifier (now (b .entry)) (case .event); s = s; t = t; u = u } ⌝ }
 {
     Violation {
-        rule: k + 1,
-        event: Part::identifier(b, i),
+        rule: case.rule + 1,
+        event: Part::identifier(b, case.event),
         s,
         t,
         u,
     }
 }
 
-fn same_class(b: &[u8], s: usize, t: usize) -> bool
-    requires { ⌜ Framed (now b) ⌝ }
-    requires { ⌜ (s < states (now b)) × (t < states (now b)) ⌝ }
-    ensures { λ r. ⌜ r ≡ same-class (now (b .entry)) s t ⌝ }
-{
-    Part::class(b, s) == Part::class(b, t)
-}
-
 // u has the class of s and does not offer the class of t.
-fn fails(b: &[u8], s: usize, t: usize, u: usize, offers: &[u64; 64]) -> bool
-    requires { ⌜ Framed (now b) ⌝ }
-    requires { ⌜ ClassesBelow (now b) ⌝ }
-    requires { ⌜ (s < states (now b)) × (t < states (now b)) × (u < states (now b)) ⌝ }
-    ensures { λ r. ⌜ r ≡ (same-class (now (b .entry)) u s && not (bit (getD (now (offers .entry)) u 0) (class (now (b .entry)) t))) ⌝ }
+fn unanswered(column: &[u8], s: usize, t: usize, u: usize, offers: &[u64; 64]) -> bool
+    requires { ⌜ Partition (now column) ⌝ }
+    requires { ⌜ (s < length (now column)) × (t < length (now column)) × (u < length (now column)) ⌝ }
+    ensures { λ r. ⌜ r ≡ (same-class (byte (now (column .entry))) u s && not (bit (getD (now (offers .entry)) u 0) (byte (now (column .entry)) t))) ⌝ }
 {
-    if same_class(b, u, s) {
-        return !set::contains(offers[u], Part::class(b, t));
+    if le::u8_at(column, u) == le::u8_at(column, s) {
+        return !set::contains(offers[u], le::u8_at(column, t));
     }
     false
 }
 
-// The first u at which rules 3 to 5 are broken at s, t.
-fn other(b: &[u8], k: usize, i: usize, s: usize, t: usize, offers: &[u64; 64]) -> Found
-    requires { ⌜ Framed (now b) ⌝ }
-    requires { ⌜ ClassesBelow (now b) ⌝ }
-    requires { ⌜ (i < events (now b)) × (s < states (now b)) × (t < states (now b)) ⌝ }
-    requires { ⌜ (2 ≤ k) × (k < 5) ⌝ }
-    requires { ⌜ Asked (now b) k i s t × Offers (now b) k i (now offers) ⌝ }
-    ensures { λ r. ⌜ shows r ≡ first (states (now (b .entry))) (violation-at (now (b .entry)) k i s t) ⌝ }
+// The first u at which one of the rules 3 to 5 is broken at s, t.
+fn first_unanswered(
+    b: &[u8],
+    column: &[u8],
+    case: Case,
+    s: usize,
+    t: usize,
+    offers: &[u64; 64],
+) -> Found
+    requires { ⌜ Sound (now b) (now column) ⌝ }
+    requires { ⌜ (s < states (now b)) × (t < states (now b)) ⌝ }
+    requires { ⌜ (case .event < events (now b)) × (2 ≤ case .rule) × (case .rule < 5) ⌝ }
+    requires { ⌜ Asked (now b) (case .observer) (case .rule) (case .event) s t ⌝ }
+    requires { ⌜ Offers (now b) (observer-in (now column) case) (case .rule) (case .event) (now offers) ⌝ }
+    ensures { λ r. ⌜ found-of r ≡ first (states (now (b .entry))) (violation-at (now (b .entry)) (observer-in (now (column .entry)) case) (case .rule) (case .event) s t) ⌝ }
 {
     let n = Part::states(b);
     let mut u = 0;
     while u < n {
-        if fails(b, s, t, u, offers) {
-            return Found::At(violation(b, k, i, s, t, u));
+        if unanswered(column, s, t, u, offers) {
+            return Found::At(violation(b, case, s, t, u));
         }
         u += 1;
     }
@@ -77,46 +80,46 @@ fn other(b: &[u8], k: usize, i: usize, s: usize, t: usize, offers: &[u64; 64]) -
 // The first violation at s, t: none where the event does not lead there or may.
 fn at_target(
     b: &[u8],
-    k: usize,
-    i: usize,
+    column: &[u8],
+    case: Case,
     s: usize,
     t: usize,
     permitted: &[u64; 64],
     offers: &[u64; 64],
 ) -> Found
-    requires { ⌜ Weighed (now b) k i (now permitted) (now offers) ⌝ }
+    requires { ⌜ Judgeable (now b) (now column) case (now permitted) (now offers) ⌝ }
     requires { ⌜ (s < states (now b)) × (t < states (now b)) ⌝ }
-    ensures { λ r. ⌜ shows r ≡ first (states (now (b .entry))) (violation-at (now (b .entry)) k i s t) ⌝ }
+    ensures { λ r. ⌜ found-of r ≡ first (states (now (b .entry))) (violation-at (now (b .entry)) (observer-in (now (column .entry)) case) (case .rule) (case .event) s t) ⌝ }
 {
-    if !set::contains(Part::row(b, i, s), t) {
+    if !set::contains(Part::row(b, case.event, s), t) {
         return Found::Nothing;
     }
     if set::contains(permitted[s], t) {
         return Found::Nothing;
     }
-    if k == 1 {
-        return Found::At(violation(b, k, i, s, t, 0));
+    if case.rule == RULE_2 {
+        return Found::At(violation(b, case, s, t, 0));
     }
-    other(b, k, i, s, t, offers)
+    first_unanswered(b, column, case, s, t, offers)
 }
 
 // The first violation at s.
 fn at_state(
     b: &[u8],
-    k: usize,
-    i: usize,
+    column: &[u8],
+    case: Case,
     s: usize,
     permitted: &[u64; 64],
     offers: &[u64; 64],
 ) -> Found
-    requires { ⌜ Weighed (now b) k i (now permitted) (now offers) ⌝ }
+    requires { ⌜ Judgeable (now b) (now column) case (now permitted) (now offers) ⌝ }
     requires { ⌜ s < states (now b) ⌝ }
-    ensures { λ r. ⌜ shows r ≡ state-violation (now (b .entry)) k i s ⌝ }
+    ensures { λ r. ⌜ found-of r ≡ state-violation (now (b .entry)) (observer-in (now (column .entry)) case) (case .rule) (case .event) s ⌝ }
 {
     let n = Part::states(b);
     let mut t = 0;
     while t < n {
-        let found = at_target(b, k, i, s, t, permitted, offers);
+        let found = at_target(b, column, case, s, t, permitted, offers);
         match found {
             Found::At(_) => return found,
             Found::Nothing => {}
@@ -129,35 +132,42 @@ fn at_state(
 // The same, with the row of s: none where the event leads only to states that it may.
 fn at_row(
     b: &[u8],
-    k: usize,
-    i: usize,
+    column: &[u8],
+    case: Case,
     s: usize,
     to: u64,
     permitted: &[u64; 64],
     offers: &[u64; 64],
 ) -> Found
-    requires { ⌜ Weighed (now b) k i (now permitted) (now offers) ⌝ }
+    requires { ⌜ Judgeable (now b) (now column) case (now permitted) (now offers) ⌝ }
     requires { ⌜ s < states (now b) ⌝ }
-    requires { ⌜ to ≡ row (now b) i s ⌝ }
-    ensures { λ r. ⌜ shows r ≡ state-violation (now (b .entry)) k i s ⌝ }
+    requires { ⌜ to ≡ row (now b) (case .event) s ⌝ }
+    ensures { λ r. ⌜ found-of r ≡ state-violation (now (b .entry)) (observer-in (now (column .entry)) case) (case .rule) (case .event) s ⌝ }
 {
     if set::intersection(to, permitted[s]) == to {
         return Found::Nothing;
     }
-    at_state(b, k, i, s, permitted, offers)
+    at_state(b, column, case, s, permitted, offers)
 }
 
-// The first violation of rules 2 to 5 by the event.
-pub fn by_sets(b: &[u8], k: usize, i: usize, permitted: &[u64; 64], offers: &[u64; 64]) -> Found
-    requires { ⌜ Weighed (now b) k i (now permitted) (now offers) ⌝ }
-    ensures { λ r. ⌜ shows r ≡ event-violation (now (b .entry)) k i ⌝ }
+// The first violation in a case of the rules 2 to 5.
+pub fn case_violation(
+    b: &[u8],
+    column: &[u8],
+    case: Case,
+    permitted: &[u64; 64],
+    offers: &[u64; 64],
+) -> Found
+    requires { ⌜ Judgeable (now b) (now column) case (now permitted) (now offers) ⌝ }
+    ensures { λ r. ⌜ found-of r ≡ event-violation (now (b .entry)) (observer-in (now (column .entry)) case) (case .rule) (case .event) ⌝ }
 {
     let n = Part::states(b);
-    let at = Part::rows(b, i);
+    let event = case.event;
+    let at = Part::rows(b, event);
     let mut s = 0;
     while s < n {
-        let to = Part::row_from(b, at, i, s);
-        let found = at_row(b, k, i, s, to, permitted, offers);
+        let to = Part::row_from(b, at, event, s);
+        let found = at_row(b, column, case, s, to, permitted, offers);
         match found {
             Found::At(_) => return found,
             Found::Nothing => {}
@@ -185,22 +195,21 @@ fn enabled(b: &[u8], i: usize) -> bool
     !stuck
 }
 
-// The first violation of rule 1 by the event: a state with no step.
-pub fn by_row(b: &[u8], i: usize) -> Found
-    requires { ⌜ Framed (now b) ⌝ }
-    requires { ⌜ RowsWithin (now b) ⌝ }
-    requires { ⌜ i < events (now b) ⌝ }
-    requires { ⌜ concerns (rule-at 0) (role-at (now b) i) ≡ true ⌝ }
-    ensures { λ r. ⌜ shows r ≡ event-violation (now (b .entry)) 0 i ⌝ }
+// The first violation in a case of rule 1: a state with no step.
+pub fn input_violation(b: &[u8], column: &[u8], case: Case) -> Found
+    requires { ⌜ Sound (now b) (now column) ⌝ }
+    requires { ⌜ (case .event < events (now b)) × (case .rule ≡ 0) ⌝ }
+    requires { ⌜ concerns (rule-at 0) (role-at (now b) (case .observer) (case .event)) ≡ true ⌝ }
+    ensures { λ r. ⌜ found-of r ≡ event-violation (now (b .entry)) (observer-in (now (column .entry)) case) 0 (case .event) ⌝ }
 {
-    if enabled(b, i) {
+    let event = case.event;
+    if enabled(b, event) {
         return Found::Nothing;
     }
-    let n = Part::states(b);
     let mut s = 0;
-    while s < n {
-        if Part::row(b, i, s) == 0 {
-            return Found::At(violation(b, 0, i, s, 0, 0));
+    while s < column.len() {
+        if Part::row(b, event, s) == 0 {
+            return Found::At(violation(b, case, s, 0, 0));
         }
         s += 1;
     }

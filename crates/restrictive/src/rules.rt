@@ -1,35 +1,48 @@
-// The first violation of the rules. Rules 2 and 4 permit an event the same states whatever the event is; rules 3 and 5 make sets for each event.
+// The first violation of the rules, for an observer of some level and a column of classes. Rules 2 and 4 permit an event the same states
+// whatever the event is; rules 3 and 5 make sets for each event.
 ghost use mathlib.Core.Path.{_≡_};
 ghost use Prim.Native.Nat.{ℕ, _<_, _≤_};
 ghost use mathlib.Core.Bool.{true, false};
 ghost use mathlib.Core.Option.{none};
-ghost use lib.ListN.{getD};
+ghost use lib.ListN.{length, getD};
 ghost use Rattle.bounded.specs.Search.{first};
-ghost use Rattle.part.specs.Record.{states, events, Framed};
+ghost use Rattle.part.specs.Record.{states, events, observing};
+ghost use Rattle.words.specs.Arrays.{Filled, sets-of};
+ghost use Rattle.words.specs.LittleEndian.{byte};
 ghost use Rattle.words.specs.Sets.{Rows};
 ghost use Rattle.relations.specs.Relations.{role-at, rule-at};
-ghost use Rattle.relations.specs.Sets.{concerns, ClassesBelow, RowsWithin, Spoken, Owns};
-ghost use Rattle.restrictive.specs.Sets.{Offers, Permitted, reached, Direct, Around};
+ghost use Rattle.relations.specs.Sets.{Sound, concerns, Concerned, ClassOf};
+ghost use Rattle.restrictive.specs.Sets.{offer, Offers, Permitted, reached, observer-in, OfferedDirectly, OfferedSilently};
 ghost use Rattle.restrictive.specs.Verdict.{event-violation, rule-violation, first-violation};
-ghost use Rattle.restrictive.specs.Answers.{shows};
+ghost use Rattle.restrictive.specs.Found.{found-of};
+use crate::answer::Case;
 use crate::answer::Found;
 use crate::naming;
 use part::Part;
 use relations::classes;
 use relations::event;
+use relations::event::RULE_1;
+use relations::event::RULE_2;
+use relations::event::RULE_3;
+use relations::event::RULE_4;
+use relations::event::RULE_5;
 use relations::silent::closure;
 use words::set;
 
 // Rule 1. `inputs` is the set of the events that it speaks of.
-fn rule_1(b: &[u8], inputs: u64) -> Found
-    requires { ⌜ Framed (now b) ⌝ }
-    requires { ⌜ RowsWithin (now b) ⌝ }
-    requires { ⌜ Spoken (now b) 0 inputs ⌝ }
-    ensures { λ r. ⌜ shows r ≡ rule-violation (now (b .entry)) 0 ⌝ }
+fn rule_1(b: &[u8], observer: u8, column: &[u8], inputs: u64) -> Found
+    requires { ⌜ Sound (now b) (now column) ⌝ }
+    requires { ⌜ Concerned (now b) observer 0 inputs ⌝ }
+    ensures { λ r. ⌜ found-of r ≡ rule-violation (now (b .entry)) (observing observer (now (column .entry))) 0 ⌝ }
 {
     let mut rest = inputs;
     while rest != 0 {
-        let found = naming::by_row(b, set::lowest(rest));
+        let case = Case {
+            rule: RULE_1,
+            event: set::lowest(rest),
+            observer,
+        };
+        let found = naming::input_violation(b, column, case);
         match found {
             Found::At(_) => return found,
             Found::Nothing => {}
@@ -40,18 +53,30 @@ fn rule_1(b: &[u8], inputs: u64) -> Found
 }
 
 // A rule by which the states that an event may lead to are the same for all events.
-fn by_fixed(b: &[u8], k: usize, spoken: u64, permitted: &[u64; 64], offers: &[u64; 64]) -> Found
-    requires { ⌜ Framed (now b) ⌝ }
-    requires { ⌜ ClassesBelow (now b) ⌝ }
-    requires { ⌜ (1 ≤ k) × (k < 5) ⌝ }
-    requires { ⌜ Spoken (now b) k spoken ⌝ }
-    requires { ⌜ ((i : ℕ) → Permitted (now b) k i (now permitted)) ⌝ }
-    requires { ⌜ (2 ≤ k → (i : ℕ) → Offers (now b) k i (now offers)) ⌝ }
-    ensures { λ r. ⌜ shows r ≡ rule-violation (now (b .entry)) k ⌝ }
+fn same_for_events(
+    b: &[u8],
+    observer: u8,
+    column: &[u8],
+    rule: usize,
+    concerned: u64,
+    permitted: &[u64; 64],
+    offers: &[u64; 64],
+) -> Found
+    requires { ⌜ Sound (now b) (now column) ⌝ }
+    requires { ⌜ (1 ≤ rule) × (rule < 5) ⌝ }
+    requires { ⌜ Concerned (now b) observer rule concerned ⌝ }
+    requires { ⌜ ((i : ℕ) → Permitted (now b) (observing observer (now column)) rule i (now permitted)) ⌝ }
+    requires { ⌜ (2 ≤ rule → (i : ℕ) → Offers (now b) (observing observer (now column)) rule i (now offers)) ⌝ }
+    ensures { λ r. ⌜ found-of r ≡ rule-violation (now (b .entry)) (observing observer (now (column .entry))) rule ⌝ }
 {
-    let mut rest = spoken;
+    let mut rest = concerned;
     while rest != 0 {
-        let found = naming::by_sets(b, k, set::lowest(rest), permitted, offers);
+        let case = Case {
+            rule,
+            event: set::lowest(rest),
+            observer,
+        };
+        let found = naming::case_violation(b, column, case, permitted, offers);
         match found {
             Found::At(_) => return found,
             Found::Nothing => {}
@@ -61,72 +86,84 @@ fn by_fixed(b: &[u8], k: usize, spoken: u64, permitted: &[u64; 64], offers: &[u6
     Found::Nothing
 }
 
-// The first violation by an event, with the classes that each state offers: none where the states of a class offer the same.
-fn by_offers(b: &[u8], k: usize, i: usize, offers: &[u64; 64], room: &mut [u64; 64]) -> Found
-    requires { ⌜ Framed (now b) ⌝ }
-    requires { ⌜ ClassesBelow (now b) ⌝ }
-    requires { ⌜ (2 ≤ k) × (k < 5) ⌝ }
-    requires { ⌜ i < events (now b) ⌝ }
-    requires { ⌜ concerns (rule-at k) (role-at (now b) i) ≡ true ⌝ }
-    requires { ⌜ Offers (now b) k i (now offers) ⌝ }
-    ensures { λ r. ⌜ shows r ≡ event-violation (now (b .entry)) k i ⌝ }
+// The first violation in a case, with the classes that each state offers: none where the states of a class offer the same.
+fn by_offers(
+    b: &[u8],
+    column: &[u8],
+    case: Case,
+    offers: &[u64; 64],
+    scratch: &mut [u64; 64],
+) -> Found
+    requires { ⌜ Sound (now b) (now column) ⌝ }
+    requires { ⌜ (2 ≤ case .rule) × (case .rule < 5) ⌝ }
+    requires { ⌜ case .event < events (now b) ⌝ }
+    requires { ⌜ concerns (rule-at (case .rule)) (role-at (now b) (case .observer) (case .event)) ≡ true ⌝ }
+    requires { ⌜ Offers (now b) (observer-in (now column) case) (case .rule) (case .event) (now offers) ⌝ }
+    ensures { λ r. ⌜ found-of r ≡ event-violation (now (b .entry)) (observer-in (now (column .entry)) case) (case .rule) (case .event) ⌝ }
 {
-    if classes::even(b, offers, room) {
+    if classes::classwise_equal(column, offers, scratch) {
         return Found::Nothing;
     }
-    classes::put_agreed(room, b, offers);
-    naming::by_sets(b, k, i, room, offers)
+    classes::put_offered_states(scratch, column, offers);
+    naming::case_violation(b, column, case, scratch, offers)
 }
 
-// Over out: the classes that each state offers at the event, from a table by state; with silent steps before it from the closure.
+// Over the start of out: the classes that each state offers in a case, from a table by state; with silent steps before the event from the
+// closure. `scratch` is room for what the event leads to.
 fn put_offers(
     out: &mut [u64; 64],
     b: &[u8],
-    k: usize,
-    i: usize,
+    column: &[u8],
+    case: Case,
     silently: bool,
     closure: &[u64; 64],
     table: &[u64; 64],
-    room: &mut [u64; 64],
+    scratch: &mut [u64; 64],
 )
-    requires { ⌜ Framed (now b) ⌝ }
-    requires { ⌜ i < events (now b) ⌝ }
-    requires { ⌜ (silently ≡ false → Direct (now b) k (now table)) ⌝ }
-    requires { ⌜ (silently ≡ true → Around (now b) k (now closure) (now table)) ⌝ }
-    ensures { λ _. ⌜ Offers (now (b .entry)) k i (now (out .exit)) ⌝ }
+    requires { ⌜ Sound (now b) (now column) ⌝ }
+    requires { ⌜ case .event < events (now b) ⌝ }
+    requires { ⌜ (silently ≡ false → OfferedDirectly (now b) (observer-in (now column) case) (case .rule) (now table)) ⌝ }
+    requires { ⌜ (silently ≡ true → OfferedSilently (now b) (observer-in (now column) case) (case .rule) (now closure) (now table)) ⌝ }
+    ensures { λ _. ⌜ Filled (sets-of (offer (now (b .entry)) (observer-in (now (column .entry)) case) (rule-at (case .rule)) (case .event))) (states (now (b .entry))) (now (out .entry)) (now (out .exit)) ⌝ }
 {
+    let event = case.event;
     if silently {
-        event::look_up(room, b, i, table);
-        set::gather_over(out, Part::states(b), closure, room);
+        event::look_up(scratch, b, event, table);
+        set::gather_over(out, column.len(), closure, scratch);
     } else {
-        event::look_up(out, b, i, table);
+        event::look_up(out, b, event, table);
     }
 }
 
 // A rule by which the states offer classes that the event decides.
 fn by_event(
     b: &[u8],
-    k: usize,
-    spoken: u64,
+    observer: u8,
+    column: &[u8],
+    rule: usize,
+    concerned: u64,
     silently: bool,
     closure: &[u64; 64],
     table: &[u64; 64],
-    room: &mut [u64; 64],
+    scratch: &mut [u64; 64],
     offers: &mut [u64; 64],
 ) -> Found
-    requires { ⌜ Framed (now b) ⌝ }
-    requires { ⌜ ClassesBelow (now b) ⌝ }
-    requires { ⌜ (2 ≤ k) × (k < 5) ⌝ }
-    requires { ⌜ Spoken (now b) k spoken ⌝ }
-    requires { ⌜ (silently ≡ false → Direct (now b) k (now table)) ⌝ }
-    requires { ⌜ (silently ≡ true → Around (now b) k (now closure) (now table)) ⌝ }
-    ensures { λ r. ⌜ shows r ≡ rule-violation (now (b .entry)) k ⌝ }
+    requires { ⌜ Sound (now b) (now column) ⌝ }
+    requires { ⌜ (2 ≤ rule) × (rule < 5) ⌝ }
+    requires { ⌜ Concerned (now b) observer rule concerned ⌝ }
+    requires { ⌜ (silently ≡ false → OfferedDirectly (now b) (observing observer (now column)) rule (now table)) ⌝ }
+    requires { ⌜ (silently ≡ true → OfferedSilently (now b) (observing observer (now column)) rule (now closure) (now table)) ⌝ }
+    ensures { λ r. ⌜ found-of r ≡ rule-violation (now (b .entry)) (observing observer (now (column .entry))) rule ⌝ }
 {
-    let mut rest = spoken;
+    let mut rest = concerned;
     while rest != 0 {
-        let i = set::lowest(rest);
-        put_offers(offers, b, k, i, silently, closure, table, room);
-        let found = by_offers(b, k, i, offers, room);
+        let case = Case {
+            rule,
+            event: set::lowest(rest),
+            observer,
+        };
+        put_offers(offers, b, column, case, silently, closure, table, scratch);
+        let found = by_offers(b, column, case, offers, scratch);
         match found {
             Found::At(_) => return found,
             Found::Nothing => {}
@@ -137,114 +174,180 @@ fn by_event(
 }
 
 // Rule 2. `highs` is the set of the high inputs.
-fn rule_2(b: &[u8], highs: u64) -> Found
-    requires { ⌜ Framed (now b) ⌝ }
-    requires { ⌜ ClassesBelow (now b) ⌝ }
-    requires { ⌜ Spoken (now b) 1 highs ⌝ }
-    ensures { λ r. ⌜ shows r ≡ rule-violation (now (b .entry)) 1 ⌝ }
+fn rule_2(b: &[u8], observer: u8, column: &[u8], highs: u64) -> Found
+    requires { ⌜ Sound (now b) (now column) ⌝ }
+    requires { ⌜ Concerned (now b) observer 1 highs ⌝ }
+    ensures { λ r. ⌜ found-of r ≡ rule-violation (now (b .entry)) (observing observer (now (column .entry))) 1 ⌝ }
 {
     if highs == 0 {
         return Found::Nothing;
     }
-    let mates = classes::mates(b);
-    by_fixed(b, 1, highs, &mates, &mates)
+    let mates = classes::class_mates(column);
+    same_for_events(b, observer, column, RULE_2, highs, &mates, &mates)
 }
 
 // Rule 4, with the classes that silent steps lead to: none where the states of a class reach the same.
-fn rule_4(b: &[u8], silent: u64, met: &[u64; 64], room: &mut [u64; 64]) -> Found
-    requires { ⌜ Framed (now b) ⌝ }
-    requires { ⌜ ClassesBelow (now b) ⌝ }
-    requires { ⌜ Spoken (now b) 3 silent ⌝ }
-    requires { ⌜ Rows (states (now b)) (now met) (reached (now b)) ⌝ }
-    ensures { λ r. ⌜ shows r ≡ rule-violation (now (b .entry)) 3 ⌝ }
+fn rule_4(
+    b: &[u8],
+    observer: u8,
+    column: &[u8],
+    silent: u64,
+    met: &[u64; 64],
+    scratch: &mut [u64; 64],
+) -> Found
+    requires { ⌜ Sound (now b) (now column) ⌝ }
+    requires { ⌜ Concerned (now b) observer 3 silent ⌝ }
+    requires { ⌜ Rows (states (now b)) (now met) (reached (now b) (observing observer (now column))) ⌝ }
+    ensures { λ r. ⌜ found-of r ≡ rule-violation (now (b .entry)) (observing observer (now (column .entry))) 3 ⌝ }
 {
-    if classes::even(b, met, room) {
+    if classes::classwise_equal(column, met, scratch) {
         return Found::Nothing;
     }
-    classes::put_agreed(room, b, met);
-    by_fixed(b, 3, silent, room, met)
+    classes::put_offered_states(scratch, column, met);
+    same_for_events(b, observer, column, RULE_4, silent, scratch, met)
 }
 
 // Rules 4 and 5, where there are silent events.
 fn with_silent(
     b: &[u8],
-    spoken: &[u64; 5],
-    own: &[u64; 64],
-    room: &mut [u64; 64],
+    observer: u8,
+    column: &[u8],
+    concerned: &[u64; 5],
+    labels: &[u64; 64],
+    scratch: &mut [u64; 64],
     offers: &mut [u64; 64],
 ) -> Found
-    requires { ⌜ Framed (now b) ⌝ }
-    requires { ⌜ RowsWithin (now b) × ClassesBelow (now b) ⌝ }
-    requires { ⌜ ((k : ℕ) → k < 5 → Spoken (now b) k (getD (now spoken) k 0)) ⌝ }
-    requires { ⌜ Owns (now b) (now own) ⌝ }
-    requires { ⌜ first 3 (rule-violation (now b)) ≡ none ⌝ }
-    ensures { λ r. ⌜ shows r ≡ first-violation (now (b .entry)) ⌝ }
+    requires { ⌜ Sound (now b) (now column) ⌝ }
+    requires { ⌜ ((k : ℕ) → k < 5 → Concerned (now b) observer k (getD (now concerned) k 0)) ⌝ }
+    requires { ⌜ ClassOf (length (now column)) (byte (now column)) (now labels) ⌝ }
+    requires { ⌜ first 3 (rule-violation (now b) (observing observer (now column))) ≡ none ⌝ }
+    ensures { λ r. ⌜ found-of r ≡ first-violation (now (b .entry)) (observing observer (now (column .entry))) ⌝ }
 {
-    let closure = closure(b, spoken[3]);
-    let met = set::gather_each(Part::states(b), &closure, own);
-    let found = rule_4(b, spoken[3], &met, room);
+    let silent = concerned[RULE_4];
+    let closure = closure(b, silent);
+    let met = set::gather_each(column.len(), &closure, labels);
+    let found = rule_4(b, observer, column, silent, &met, scratch);
     match found {
         Found::At(_) => return found,
         Found::Nothing => {}
     }
-    by_event(b, 4, spoken[4], true, &closure, &met, room, offers)
+    by_event(
+        b,
+        observer,
+        column,
+        RULE_5,
+        concerned[RULE_5],
+        true,
+        &closure,
+        &met,
+        scratch,
+        offers,
+    )
+}
+
+// Rules 4 and 5. Without silent events rule 4 asks nothing, and rule 5 asks for the event alone.
+fn rules_from_4(
+    b: &[u8],
+    observer: u8,
+    column: &[u8],
+    concerned: &[u64; 5],
+    labels: &[u64; 64],
+    scratch: &mut [u64; 64],
+    offers: &mut [u64; 64],
+) -> Found
+    requires { ⌜ Sound (now b) (now column) ⌝ }
+    requires { ⌜ ((k : ℕ) → k < 5 → Concerned (now b) observer k (getD (now concerned) k 0)) ⌝ }
+    requires { ⌜ ClassOf (length (now column)) (byte (now column)) (now labels) ⌝ }
+    requires { ⌜ first 3 (rule-violation (now b) (observing observer (now column))) ≡ none ⌝ }
+    ensures { λ r. ⌜ found-of r ≡ first-violation (now (b .entry)) (observing observer (now (column .entry))) ⌝ }
+{
+    if concerned[RULE_4] != 0 {
+        return with_silent(b, observer, column, concerned, labels, scratch, offers);
+    }
+    let actions = concerned[RULE_5];
+    by_event(
+        b,
+        observer,
+        column,
+        RULE_5,
+        actions,
+        false,
+        labels,
+        labels,
+        scratch,
+        offers,
+    )
 }
 
 // Rules 3 to 5.
-fn rules_from_3(b: &[u8], spoken: &[u64; 5]) -> Found
-    requires { ⌜ Framed (now b) ⌝ }
-    requires { ⌜ RowsWithin (now b) × ClassesBelow (now b) ⌝ }
-    requires { ⌜ ((k : ℕ) → k < 5 → Spoken (now b) k (getD (now spoken) k 0)) ⌝ }
-    requires { ⌜ first 2 (rule-violation (now b)) ≡ none ⌝ }
-    ensures { λ r. ⌜ shows r ≡ first-violation (now (b .entry)) ⌝ }
+fn rules_from_3(b: &[u8], observer: u8, column: &[u8], concerned: &[u64; 5]) -> Found
+    requires { ⌜ Sound (now b) (now column) ⌝ }
+    requires { ⌜ ((k : ℕ) → k < 5 → Concerned (now b) observer k (getD (now concerned) k 0)) ⌝ }
+    requires { ⌜ first 2 (rule-violation (now b) (observing observer (now column))) ≡ none ⌝ }
+    ensures { λ r. ⌜ found-of r ≡ first-violation (now (b .entry)) (observing observer (now (column .entry))) ⌝ }
 {
-    let own = classes::own(b);
-    let mut room = [0u64; 64];
+    let labels = classes::class_of(column);
+    let mut scratch = [0u64; 64];
     let mut offers = [0u64; 64];
-    let found = by_event(b, 2, spoken[2], false, &own, &own, &mut room, &mut offers);
+    let inputs = concerned[RULE_3];
+    let found = by_event(
+        b,
+        observer,
+        column,
+        RULE_3,
+        inputs,
+        false,
+        &labels,
+        &labels,
+        &mut scratch,
+        &mut offers,
+    );
     match found {
         Found::At(_) => return found,
         Found::Nothing => {}
     }
-    if spoken[3] == 0 {
-        return by_event(b, 4, spoken[4], false, &own, &own, &mut room, &mut offers);
-    }
-    with_silent(b, spoken, &own, &mut room, &mut offers)
+    rules_from_4(
+        b,
+        observer,
+        column,
+        concerned,
+        &labels,
+        &mut scratch,
+        &mut offers,
+    )
 }
 
 // Rules 2 to 5. Where no two states share a class, rules 3 to 5 ask nothing.
-fn rules_from_2(b: &[u8], spoken: &[u64; 5]) -> Found
-    requires { ⌜ Framed (now b) ⌝ }
-    requires { ⌜ RowsWithin (now b) × ClassesBelow (now b) ⌝ }
-    requires { ⌜ ((k : ℕ) → k < 5 → Spoken (now b) k (getD (now spoken) k 0)) ⌝ }
-    requires { ⌜ first 1 (rule-violation (now b)) ≡ none ⌝ }
-    ensures { λ r. ⌜ shows r ≡ first-violation (now (b .entry)) ⌝ }
+fn rules_from_2(b: &[u8], observer: u8, column: &[u8], concerned: &[u64; 5]) -> Found
+    requires { ⌜ Sound (now b) (now column) ⌝ }
+    requires { ⌜ ((k : ℕ) → k < 5 → Concerned (now b) observer k (getD (now concerned) k 0)) ⌝ }
+    requires { ⌜ first 1 (rule-violation (now b) (observing observer (now column))) ≡ none ⌝ }
+    ensures { λ r. ⌜ found-of r ≡ first-violation (now (b .entry)) (observing observer (now (column .entry))) ⌝ }
 {
-    let found = rule_2(b, spoken[1]);
+    let found = rule_2(b, observer, column, concerned[RULE_2]);
     match found {
         Found::At(_) => return found,
         Found::Nothing => {}
     }
-    if classes::distinct(b) {
+    if classes::all_distinct(column) {
         return Found::Nothing;
     }
-    rules_from_3(b, spoken)
+    rules_from_3(b, observer, column, concerned)
 }
 
-// The first violation of the rules.
-pub fn first_violation(b: &[u8]) -> Found
-    requires { ⌜ Framed (now b) ⌝ }
-    requires { ⌜ RowsWithin (now b) × ClassesBelow (now b) ⌝ }
-    ensures { λ r. ⌜ shows r ≡ first-violation (now (b .entry)) ⌝ }
+// The first violation of the rules, for an observer of this level and the classes of the column.
+pub fn first_violation(b: &[u8], observer: u8, column: &[u8]) -> Found
+    requires { ⌜ Sound (now b) (now column) ⌝ }
+    ensures { λ r. ⌜ found-of r ≡ first-violation (now (b .entry)) (observing observer (now (column .entry))) ⌝ }
 {
     if Part::events(b) == 0 {
         return Found::Nothing;
     }
-    let spoken = event::spoken(b);
-    let found = rule_1(b, spoken[0]);
+    let concerned = event::concerned(b, observer);
+    let found = rule_1(b, observer, column, concerned[RULE_1]);
     match found {
         Found::At(_) => return found,
         Found::Nothing => {}
     }
-    rules_from_2(b, &spoken)
+    rules_from_2(b, observer, column, &concerned)
 }

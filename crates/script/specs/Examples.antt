@@ -2,7 +2,8 @@
 use mathlib.Core.Path.{_≡_, refl}
 use mathlib.Core.List.{[], _∷_}
 use Rattle.words.specs.LittleEndian.{number}
-use Rattle.script.specs.Operation.{clear, load, hookup, count, part, ended, truncated, unknown, load-of, call, operation}
+use Rattle.script.specs.Operation.{clear, load, hookup, count, part, ended, truncated, unknown}
+use Rattle.script.specs.Operation.{load-of, call, operation}
 
 -- Each call, with bytes of the next operation behind it.
 pub clear-is : operation (0 ∷ 3 ∷ []) ≡ clear

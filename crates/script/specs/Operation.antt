@@ -1,4 +1,4 @@
--- The operations of a replay script: a byte that says which, then its numbers as little-endian u32, then a record's bytes.
+-- The operations of a replay script: a byte that says which, its numbers as little-endian u32, a record's bytes.
 use Prim.Native.Nat.{ℕ, _+_}
 use mathlib.Core.Bool.{cond}
 use mathlib.Core.List.{List, [], _∷_}
@@ -6,7 +6,7 @@ use lib.Dec.{ltb, eqb}
 use lib.ListN.{length, getD, take, drop}
 use Rattle.words.specs.LittleEndian.{byte, number}
 
--- The operation at the start of some bytes: a call; none, where no byte is left; one that the end of the bytes cuts off; an unknown one.
+-- The operation at the start of some bytes: a call; none, where no byte is left; one that is cut off; an unknown one.
 pub data Operation : Type 0 where
   clear : Operation
   load : List ℕ → Operation
@@ -15,7 +15,7 @@ pub data Operation : Type 0 where
   part : ℕ → Operation
   ended truncated unknown : Operation
 
--- The bytes of an operation before a record's: 0 is Clear, 1 Load with the record's length, 2 Hookup with i and j, 3 Count, 4 Part with i.
+-- Its bytes before a record's: 0 is Clear, 1 Load with the record's length, 2 Hookup with i, j, 3 Count, 4 Part with i.
 abbrev pub sizes : List ℕ
 sizes = 1 ∷ 5 ∷ 9 ∷ 1 ∷ 5 ∷ []
 
@@ -36,3 +36,14 @@ operation s =
     cond (ltb (length s) 1) ended
     (cond (ltb 4 (byte s 0)) unknown
     (cond (ltb (length s) (getD sizes (byte s 0) 0)) truncated (call (byte s 0) s)))
+
+-- How many bytes an operation takes: none, where the bytes end or stop there.
+unfoldable pub size : Operation → ℕ
+size clear = 1
+size (load r) = 5 + length r
+size (hookup i j) = 9
+size count = 1
+size (part i) = 5
+size ended = 0
+size truncated = 0
+size unknown = 0

@@ -1,4 +1,4 @@
--- What holds of every record of a list. Assumes nothing.
+-- What holds of every record of a list.
 use Prim.Native.Nat.{ℕ, zero, suc, _<_}
 use mathlib.Core.List.{List, [], _∷_, _++_}
 use native.Mathlib.Nat.{le-of-suc-le-suc, not-suc-le-zero}

@@ -1,11 +1,14 @@
--- Answers that are neither 12 nor 14: numbers, breaks, a record's own refusals and the obstacles of two records. Assumes nothing.
-use Prim.Native.Nat.{ℕ, zero, suc, _≤_}
-use mathlib.Core.Path.{_≡_, subst}
-use mathlib.Core.Bool.{Bool, true, false}
+-- Answers that are neither 12 nor 14: numbers, breaks, a record's own refusals and the obstacles of two records.
+use Prim.Native.Nat.{ℕ, zero, suc}
+use mathlib.Core.Path.{_≡_, refl, ap, _∙_, subst}
+use mathlib.Core.Bool.{Bool, true, false, _||_, or-true}
 use mathlib.Core.List.{List, [], _∷_}
 use mathlib.Core.Option.{Option, none, some}
 use native.Mathlib.Omega.{arith}
+use lib.Dec.{eqb}
+use borrow.Author.Tests.{eq-eqb}
 use Rattle.bounded.specs.Search.{or-else, first}
+use Rattle.bounded.proofs.Search.{or-now, true-not-false}
 use Rattle.part.specs.Rejections.{Condition, conditions}
 use Rattle.restrictive.specs.Verdict as check
 use Rattle.restrictive.specs.Verdict.{Violation, verdict}
@@ -42,22 +45,31 @@ refused-foreseen k n m = record {
 
 -- ---- a record's own refusal
 
--- The numbers of the conditions are at most 8.
-abbrev Small : List Condition → Type 0
-Small [] = Unit {0}
-Small (c ∷ cs) = (c .number ≤ 8) × Small cs
+-- One of the conditions has the number k.
+unfoldable has-number : ℕ → List Condition → Bool
+has-number k [] = false
+has-number k (c ∷ cs) = eqb (c .number) k || has-number k cs
 
-small-number : {b : List ℕ} {cs : List Condition} {k : ℕ} → FirstHolding b cs k → Small cs → k ≤ 8
-small-number (here t) s = s .0
-small-number (later f h) s = small-number h (s .1)
+numbered : {b : List ℕ} {cs : List Condition} {k : ℕ} → FirstHolding b cs k → has-number k cs ≡ true
+unfolding has-number
+numbered (here {c = c} {cs = cs} t) =
+    or-now (eqb (c .number) (c .number)) (has-number (c .number) cs) (eq-eqb (c .number) (c .number) refl)
+numbered (later {c = c} {cs = cs} {k = k} f h) =
+    ap (λ (p : Bool). eqb (c .number) k || p) (numbered h) ∙ or-true (eqb (c .number) k)
 
-all-small : Small conditions
-all-small = (omega arith, (omega arith, (omega arith, (omega arith, (omega arith, (omega arith, (omega arith, (omega arith, tt))))))))
+-- None has 12, and none has 14.
+no-12 : has-number 12 conditions ≡ false
+unfolding has-number
+no-12 = refl
+
+no-14 : has-number 14 conditions ≡ false
+unfolding has-number
+no-14 = refl
 
 pub refusal-foreseen : (r : List ℕ) (k : ℕ) → verdict r ≡ check.refused k → Foreseen (refused k)
 refusal-foreseen r k e =
-    let small = small-number (refused-exactly r k .0 e) all-small in
-    refused-foreseen k (λ q. omega arith) (λ q. omega arith)
+    let n = numbered (refused-exactly r k .0 e) in
+    refused-foreseen k (λ q. true-not-false (rw q at n) no-12) (λ q. true-not-false (rw q at n) no-14)
 
 -- ---- the obstacles
 

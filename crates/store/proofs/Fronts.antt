@@ -1,4 +1,4 @@
--- What stands at a place: the fields that are read there, and the cases of `front`. Assumes nothing.
+-- What stands at a place: the fields that are read there, and the cases of `front`.
 use Prim.Native.Nat.{ℕ, _+_, _≤_, _<_}
 use mathlib.Core.Path.{_≡_, refl, ap, _∙_}
 use mathlib.Core.Bool.{Bool, true, false, _&&_, cond}
@@ -27,7 +27,8 @@ ends s = eqb (kind s) 0 && eqb (body-length s) 0
 pub other-kind : (s : List ℕ) (at k : ℕ) → k ≡ number 2 s (at + 4) → (k ≡ 0 → ⊥) → false ≡ ends (drop at s)
 other-kind s at k e h = rw (kind-at s at, ← e, ne-eqb k 0 h)
 
-pub by-body : (s : List ℕ) (at k l : ℕ) → k ≡ number 2 s (at + 4) → k ≡ 0 → l ≡ number 4 s at → eqb l 0 ≡ ends (drop at s)
+pub by-body : (s : List ℕ) (at k l : ℕ) → k ≡ number 2 s (at + 4) → k ≡ 0 → l ≡ number 4 s at
+    → eqb l 0 ≡ ends (drop at s)
 by-body s at k l e h b = rw (kind-at s at, body-at s at, ← e, ← b, eq-eqb k 0 h)
 
 pub front-short : (s : List ℕ) → length s < 6 → front s ≡ neither
@@ -42,7 +43,8 @@ pub front-past : (s : List ℕ) → 6 ≤ length s → ends s ≡ false → leng
 unfolding front
 front-past s h e l = rw (le-ltb _ _ h, e, lt-ltb _ _ l)
 
-pub front-record : (s : List ℕ) → 6 ≤ length s → ends s ≡ false → 6 + body-length s ≤ length s → front s ≡ record-of (6 + body-length s)
+pub front-record : (s : List ℕ) → 6 ≤ length s → ends s ≡ false → 6 + body-length s ≤ length s
+    → front s ≡ record-of (6 + body-length s)
 unfolding front
 front-record s h e l = rw (le-ltb _ _ h, e, le-ltb _ _ l)
 

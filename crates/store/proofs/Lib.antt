@@ -1,10 +1,10 @@
 pub mod Each
 pub mod Fronts
-pub mod Stepping
+pub mod Steps
 pub mod Walks
 pub mod Readings
-pub mod Appending
-pub mod Hooking
+pub mod Appends
+pub mod HookupLaws
 pub mod Expected
 pub mod Simulation
 pub mod Theorems

@@ -1,16 +1,15 @@
--- What Count and Part read off a walk: the records stand at the start of the shelf, one behind the other. Assumes nothing.
-use Prim.Native.Nat.{ℕ, zero, suc, _+_, _-_, _≤_, _<_}
-use mathlib.Core.Path.{_≡_, refl, sym, ap, _∙_, subst}
-use mathlib.Core.List.{List, [], _∷_, _++_, flatten, append-assoc, append-nil}
+-- What Count and Part read off a walk: the records stand at the start of the shelf, one behind the other.
+use Prim.Native.Nat.{ℕ, zero, suc, _≤_}
+use mathlib.Core.Path.{_≡_, refl, sym, ap, _∙_}
+use mathlib.Core.List.{List, [], _∷_, _++_, flatten, append-assoc}
 use mathlib.Core.Option.{Option, none, some, Option·map}
-use native.Mathlib.Nat.{not-suc-le-zero, le-of-suc-le-suc}
-use native.Mathlib.Numerals.{add-one}
 use native.Mathlib.Decide.{decLt}
 use native.Mathlib.Omega.{arith}
 use lib.ListN.{length, take, drop, getD, length-append, take-append-drop, List·getD-eq-default}
-use lib.Seq.{take-append-seam, drop-append-add, length-take-le}
+use lib.Seq.{length-take-le}
 use Rattle.store.specs.Answer.{gives, refused}
 use Rattle.store.specs.Walk.{Front, end-record, record-of, neither, front, walk-at-most, walk, records}
+use Rattle.store.specs.Found.{Ends}
 use Rattle.store.specs.Reading.{count, part}
 use Rattle.store.specs.Demand.{Begins}
 use Rattle.store.specs.Theorems.{NoPart, no-end, no-record, PartEmptyExactly}
@@ -19,47 +18,21 @@ use Rattle.store.proofs.Fronts.{record-whole}
 
 -- ---- Count
 
-pub count-some : (s : List ℕ) (rs : List (List ℕ)) (n : ℕ) → walk s ≡ some rs → length rs ≡ n → gives n ≡ count s
+pub count-some : (s : List ℕ) (n at : ℕ) → Ends s n at → gives n ≡ count s
 unfolding count
-count-some s rs n e m = rw (e, count) (ap gives (sym m))
+count-some s n at w = rw (w .ends, count) (ap gives (w .many))
 
 pub count-none : (s : List ℕ) → walk s ≡ none → refused 12 ≡ count s
 unfolding count
 count-none s e = rw (e, count)
 
--- A walk of s finds its end record, behind n records.
-pub record Counted (s : List ℕ) (n : ℕ) : Type 0 where
-  pub ends : walk s ≡ some (records s)
-  pub many : length (records s) ≡ n
-
-pub counted : (s : List ℕ) (n : ℕ) → gives n ≡ count s → Counted s n
-unfolding count records
-counted s n e = go (walk s) refl
-  where
-    go : (o : Option (List (List ℕ))) → walk s ≡ o → Counted s n
-    go none q = let no = count-none s q in let z : _≡_ {A = ℕ} 0 1 = cc in absurd (omega arith)
-    go (some rs) q =
-        let same : records s ≡ rs = rw (q, records) in
-        let yes = count-some s rs (length rs) q refl in
-        let many : n ≡ length rs = cc in
-        record { ends = rw same q; many = rw same (sym many) }
-
-pub endless : (s : List ℕ) → refused 12 ≡ count s → walk s ≡ none
-endless s e = go (walk s) refl
-  where
-    go : (o : Option (List (List ℕ))) → walk s ≡ o → walk s ≡ none
-    go none q = q
-    go (some rs) q = let yes = count-some s rs (length rs) q refl in let z : _≡_ {A = ℕ} 0 1 = cc in absurd (omega arith)
-
-pub uncounted : (s : List ℕ) → refused 12 ≡ count s → records s ≡ []
-unfolding records
-uncounted s e = rw (endless s e, records)
-
 -- ---- what holds of the records of a walk
 
--- Q holds of bytes and what a walk of them finds, if it does at an end record, and before a record where it does behind it.
+-- Q holds of bytes and what a walk of them finds, if it does at an end record, and before a record where it does
+-- behind it.
 module _ (Q : List ℕ → List (List ℕ) → Type 0) (at-end : (s : List ℕ) → Q s [])
-    (before : (s : List ℕ) (qs : List (List ℕ)) (n : ℕ) → front s ≡ record-of n → Q (drop n s) qs → Q s (take n s ∷ qs)) where
+    (before : (s : List ℕ) (qs : List (List ℕ)) (n : ℕ) → front s ≡ record-of n → Q (drop n s) qs
+    → Q s (take n s ∷ qs)) where
   found-step : (k : ℕ) (s : List ℕ) (rs : List (List ℕ)) (f : Front) → front s ≡ f
       → ((t : List ℕ) (qs : List (List ℕ)) → walk-at-most k t ≡ some qs → Q t qs)
       → walk-at-most (suc k) s ≡ some rs
@@ -75,7 +48,8 @@ module _ (Q : List ℕ → List (List ℕ) → Type 0) (at-end : (s : List ℕ) 
       absurd (omega arith)
   found-step k s rs (record-of n) e more h = go (walk-at-most k (drop n s)) refl (rw (e, walk-at-most) at h)
     where
-      go : (o : Option (List (List ℕ))) → walk-at-most k (drop n s) ≡ o → Option·map (λ (qs : List (List ℕ)). take n s ∷ qs) o ≡ some rs → Q s rs
+      go : (o : Option (List (List ℕ))) → walk-at-most k (drop n s) ≡ o
+          → Option·map (λ (qs : List (List ℕ)). take n s ∷ qs) o ≡ some rs → Q s rs
       go none q found = let z : _≡_ {A = ℕ} 0 1 = cc in absurd (omega arith)
       go (some qs) q found = let all : take n s ∷ qs ≡ rs = cc in rw (← all) (before s qs n e (more (drop n s) qs q))
 
@@ -108,32 +82,6 @@ walk-headed =
 
 -- ---- Part
 
--- Where record i starts.
-abbrev pub place : List (List ℕ) → ℕ → ℕ
-place rs i = length (flatten (take i rs))
-
-place-next : (rs : List (List ℕ)) (i : ℕ) → i < length rs → place rs (suc i) ≡ place rs i + length (getD rs i [])
-unfolding flatten
-place-next [] i l = absurd (not-suc-le-zero l)
-place-next (r ∷ rs) zero l = ap length (append-nil r) ∙ omega arith
-place-next (r ∷ rs) (suc i) l =
-    let more = place-next rs i (le-of-suc-le-suc l) in
-    let one = length-append r (flatten (take (suc i) rs)) in
-    let other = length-append r (flatten (take i rs)) in
-    omega arith
-
-pub place-grows : (s : List ℕ) (n i a e : ℕ) → Counted s n → i < n → a ≡ place (records s) i → e ≡ place (records s) (i + 1) → a ≤ e
-place-grows s n i a e c l p q =
-    let inside : i < length (records s) = omega (arith, c .many) in
-    omega (arith, place-next (records s) i inside, rw add-one at q)
-
-piece : (rs : List (List ℕ)) (rest : List ℕ) (i : ℕ) → i < length rs
-    → take (length (getD rs i [])) (drop (place rs i) (flatten rs ++ rest)) ≡ getD rs i []
-unfolding flatten
-piece [] rest i l = absurd (not-suc-le-zero l)
-piece (r ∷ rs) rest zero l = rw append-assoc (take-append-seam r (flatten rs ++ rest))
-piece (r ∷ rs) rest (suc i) l = rw (append-assoc, length-append, drop-append-add) (piece rs rest i (le-of-suc-le-suc l))
-
 pub part-none : (s : List ℕ) (i : ℕ) → length (records s) ≤ i → [] ≡ part s i
 unfolding part
 part-none s i h = sym (List·getD-eq-default (records s) [] h)
@@ -151,26 +99,14 @@ part-empty-exactly s i = (empty-none (walk s) refl, none-empty)
           | yes l ↦
               let same : records s ≡ rs = rw (q, records) in
               let headed = each-at (λ r. 6 ≤ length r) rs (walk-headed s rs q) i l in
-              let gone : length (getD rs i []) ≡ 0 = ap (λ (qs : List (List ℕ)). length (getD qs i [])) (sym same) ∙ ap length e in
+              let gone : length (getD rs i []) ≡ 0 =
+              ap (λ (qs : List (List ℕ)). length (getD qs i [])) (sym same) ∙ ap length e in
               absurd (omega arith)
         ]
 
     none-empty : NoPart s i → part s i ≡ []
     none-empty (no-end q) = sym (part-none s i (rw (q, records) (omega arith)))
     none-empty (no-record q h) = sym (part-none s i (rw (q, records) h))
-
--- The bytes from where record i starts to where the next one does.
-pub part-between : (s : List ℕ) (n i a e : ℕ) → Counted s n → i < n → a ≡ place (records s) i → e ≡ place (records s) (i + 1)
-    → take (e - a) (drop a s) ≡ part s i
-unfolding part
-part-between s n i a e c l p q =
-    let begun = walk-begins s (records s) (c .ends) in
-    let inside : i < length (records s) = omega (arith, c .many) in
-    let next = place-next (records s) i inside in
-    let size : e - a ≡ length (getD (records s) i []) = omega (arith, rw add-one at q) in
-    rw (size, p)
-    (subst (λ (t : List ℕ). take (length (getD (records s) i [])) (drop (place (records s) i) t) ≡ getD (records s) i []) (sym (begun .so))
-    (piece (records s) (begun .rest) i inside))
 
 record-within : (rs : List (List ℕ)) (i : ℕ) → length (getD rs i []) ≤ length (flatten rs)
 unfolding flatten
@@ -187,4 +123,5 @@ part-within s i = go (walk s) refl
     go none q = rw (q, records) (omega arith)
     go (some rs) q =
         let begun = walk-begins s rs q in
-        rw (q, records) (omega (arith, record-within rs i, length-append (flatten rs) (begun .rest), ap length (begun .so)))
+        rw (q, records)
+        (omega (arith, record-within rs i, length-append (flatten rs) (begun .rest), ap length (begun .so)))

@@ -1,5 +1,5 @@
--- The shelf and the model go together: each call on a shelf that holds the model's records gives the model's answer, never 12 or 14, and leaves
--- a shelf that holds the records that the model then has. Assumes nothing.
+-- The shelf and the model go together: each call on a shelf that holds the model's records gives the model's answer,
+-- never 12 or 14, and leaves a shelf that holds the records that the model then has.
 use Prim.Native.Nat.{ℕ, _+_, _≤_}
 use mathlib.Core.Path.{_≡_, refl, sym, ap, _∙_}
 use mathlib.Core.Bool.{true}
@@ -12,7 +12,7 @@ use lib.Seq.{sets-eq, take-append-seam}
 use borrow.Author.Tests.{lt-ltb, le-ltb, le-leb, lt-leb}
 use Rattle.words.specs.LittleEndian.{Bytes}
 use Rattle.words.specs.Laid.{over}
-use Rattle.words.proofs.Laying.{length-over, over-start}
+use Rattle.words.proofs.LaidLaws.{length-over, over-start}
 use Rattle.part.specs.Rejections.{Accepted}
 use Rattle.part.proofs.Proper.{proper-fits}
 use Rattle.part.proofs.ReadBack.{bytes-layout}
@@ -32,9 +32,10 @@ use Rattle.store.specs.Model as model
 use Rattle.store.specs.Model.{Kept, kept}
 use Rattle.store.specs.Demand.{Foreseen}
 use Rattle.store.proofs.Each.{Each, each-at, each-last, each-as}
-use Rattle.store.proofs.Stepping.{flatten-append}
+use Rattle.store.proofs.Steps.{flatten-append}
 use Rattle.store.proofs.Walks.{walk-records}
-use Rattle.store.proofs.Expected.{gives-foreseen, breaks-foreseen, refused-foreseen, refusal-foreseen, obstacle-foreseen}
+use Rattle.store.proofs.Expected.{gives-foreseen, breaks-foreseen, refused-foreseen, refusal-foreseen}
+use Rattle.store.proofs.Expected.{obstacle-foreseen}
 
 -- Bytes that pass Check.
 pub record Good (r : List ℕ) : Type 0 where
@@ -109,7 +110,8 @@ flatten-last rs r = flatten-append rs (r ∷ []) ∙ ap (λ (l : List ℕ). flat
 
 -- A record and an end record over the end record behind front.
 laid-over : (s front rest r : List ℕ) → s ≡ front ++ end-bytes ++ rest → length front + length r + 6 ≤ length s
-    → over s (length front) (r ++ end-bytes) ≡ front ++ r ++ end-bytes ++ drop (length front + length (r ++ end-bytes)) s
+    → over s (length front) (r ++ end-bytes) ≡ front ++ r ++ end-bytes
+    ++ drop (length front + length (r ++ end-bytes)) s
 unfolding over end-bytes
 laid-over s front rest r e h =
     let size = length-append r end-bytes in
@@ -132,7 +134,8 @@ module _ (n : ℕ) (s : List ℕ) (rs : List (List ℕ)) (h : Holds n s rs) wher
         size = length-over s (length (flatten rs)) (r ++ end-bytes) ∙ size;
         rest = drop (length (flatten rs) + length (r ++ end-bytes)) s;
         laid = laid-over s (flatten rs) (h .rest) r (h .laid) (omega arith)
-            ∙ ap (λ (l : List ℕ). l ++ end-bytes ++ drop (length (flatten rs) + length (r ++ end-bytes)) s) (sym (flatten-last rs r));
+            ∙ ap (λ (l : List ℕ). l ++ end-bytes ++ drop (length (flatten rs) + length (r ++ end-bytes)) s)
+            (sym (flatten-last rs r));
         good = each-last Good rs r (h .good) g;
       }
 
@@ -154,22 +157,31 @@ module _ (n : ℕ) (s : List ℕ) (rs : List (List ℕ)) (h : Holds n s rs) wher
   load-together r b = go (verdict r) refl
     where
       go : (v : Verdict) → verdict r ≡ v → Together n (shelf.load s r) (model.load-record n rs r)
-      go pass e = rw (holds-walk n s rs h, e, shelf.load, model.load-record) (append-together r (record { passing = e; bytes = b }))
-      go (check.refused k) e = rw (holds-walk n s rs h, e, shelf.load, model.load-record) (stay (refused k) (refusal-foreseen r k e))
-      go (check.breaks v) e = rw (holds-walk n s rs h, e, shelf.load, model.load-record) (stay (breaks v) (breaks-foreseen v))
+      go pass e =
+          rw (holds-walk n s rs h, e, shelf.load, model.load-record)
+          (append-together r (record { passing = e; bytes = b }))
+      go (check.refused k) e =
+          rw (holds-walk n s rs h, e, shelf.load, model.load-record) (stay (refused k) (refusal-foreseen r k e))
+      go (check.breaks v) e =
+          rw (holds-walk n s rs h, e, shelf.load, model.load-record) (stay (breaks v) (breaks-foreseen v))
 
   -- ---- Hookup
 
-  joined-together : (a b : List ℕ) → Good a → Good b → Together n (shelf.append-joined s rs a b) (model.hookup-records n rs a b)
+  joined-together : (a b : List ℕ) → Good a → Good b
+      → Together n (shelf.append-joined s rs a b) (model.hookup-records n rs a b)
   unfolding shelf.append-joined model.hookup-records
   joined-together a b g k = go (obstacle a b) refl
     where
-      go : (o : Option Obstacle) → obstacle a b ≡ o → Together n (shelf.append-joined s rs a b) (model.hookup-records n rs a b)
-      go none e = rw (e, shelf.append-joined, model.hookup-records) (append-together (joined a b) (joined-good a b g k e))
-      go (some o) e = rw (e, shelf.append-joined, model.hookup-records) (stay (obstacle-answer o) (obstacle-foreseen a b o e))
+      go : (o : Option Obstacle) → obstacle a b ≡ o
+          → Together n (shelf.append-joined s rs a b) (model.hookup-records n rs a b)
+      go none e =
+          rw (e, shelf.append-joined, model.hookup-records) (append-together (joined a b) (joined-good a b g k e))
+      go (some o) e =
+          rw (e, shelf.append-joined, model.hookup-records) (stay (obstacle-answer o) (obstacle-foreseen a b o e))
 
   -- Records that the shelf holds pass, so that 14 does not come.
-  parts-together : (a b : List ℕ) → Good a → Good b → Together n (shelf.hookup-of s rs a b) (model.hookup-records n rs a b)
+  parts-together : (a b : List ℕ) → Good a → Good b
+      → Together n (shelf.hookup-of s rs a b) (model.hookup-records n rs a b)
   unfolding shelf.hookup-of
   parts-together a b g k = rw (good-passes a g, good-passes b k) (joined-together a b g k)
 
@@ -183,6 +195,7 @@ module _ (n : ℕ) (s : List ℕ) (rs : List (List ℕ)) (h : Holds n s rs) wher
         | yes l ↦ elim (decLt j (length rs)) [
           | no m ↦ rw (lt-leb (length rs) i l, le-leb (length rs) j (omega arith)) outside
           | yes m ↦ rw (lt-leb (length rs) i l, lt-leb (length rs) j m)
-              (parts-together (getD rs i []) (getD rs j []) (each-at Good rs (h .good) i l) (each-at Good rs (h .good) j m))
+              (parts-together (getD rs i []) (getD rs j []) (each-at Good rs (h .good) i l)
+              (each-at Good rs (h .good) j m))
         ]
       ])

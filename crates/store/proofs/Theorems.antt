@@ -1,4 +1,4 @@
--- Demand 3: whole lists of calls. Assumes nothing.
+-- Demand 3: whole lists of calls.
 use Prim.Native.Nat.{ℕ, _<_}
 use mathlib.Core.Path.{_≡_, refl}
 use mathlib.Core.List.{List, [], _∷_}
@@ -11,7 +11,8 @@ use Rattle.store.specs.Model as model
 use Rattle.store.specs.Model.{Call, clear, load, hookup, records-after, answers}
 use Rattle.store.specs.Demand.{step, shelf-after, shelf-answers, BytesLoaded, Hides, AllForeseen, Demand3}
 use Rattle.store.proofs.Each.{each-at}
-use Rattle.store.proofs.Simulation.{Good, good-accepted, Holds, holds-walk, holds-room, Together, clear-together, load-together, hookup-together}
+use Rattle.store.proofs.Simulation.{Good, good-accepted, Holds, holds-walk, holds-room, Together}
+use Rattle.store.proofs.Simulation.{clear-together, load-together, hookup-together}
 
 -- ---- many calls
 
@@ -24,7 +25,8 @@ record Alike (n : ℕ) (calls : List Call) (s : List ℕ) (rs : List (List ℕ))
 module _ (n : ℕ) (c : Call) (calls : List Call) (s : List ℕ) (rs : List (List ℕ)) where
   -- One call, and the calls after it.
   then : Together n (step c s) (model.step n c rs)
-      → (Holds n (step c s .shelf) (model.step n c rs .records) → Alike n calls (step c s .shelf) (model.step n c rs .records))
+      → (Holds n (step c s .shelf) (model.step n c rs .records)
+      → Alike n calls (step c s .shelf) (model.step n c rs .records))
       → Alike n (c ∷ calls) s rs
   unfolding shelf-after shelf-answers records-after answers
   then first more =
@@ -33,7 +35,8 @@ module _ (n : ℕ) (c : Call) (calls : List Call) (s : List ℕ) (rs : List (Lis
       let others = later .same in
       record { holds = later .holds; same = cc (one, others); foreseen = (first .foreseen, later .foreseen) }
 
-alike : (n : ℕ) (calls : List Call) (s : List ℕ) (rs : List (List ℕ)) → BytesLoaded calls → Holds n s rs → Alike n calls s rs
+alike : (n : ℕ) (calls : List Call) (s : List ℕ) (rs : List (List ℕ)) → BytesLoaded calls → Holds n s rs
+    → Alike n calls s rs
 unfolding shelf-after shelf-answers records-after answers step model.step
 alike n [] s rs b h = record { holds = h; same = refl; foreseen = tt }
 alike n (clear ∷ calls) s rs b h =

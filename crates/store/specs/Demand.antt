@@ -41,8 +41,8 @@ pub record Begins (xs ys : List ℕ) : Type 0 where
   pub rest : List ℕ
   pub so : xs ≡ ys ++ rest
 
--- A part hides its high inputs: every trace of it with k low events and every k + 1 lists of its high inputs has a trace with the same low
--- events and exactly those lists in its gaps.
+-- A part hides its high inputs: every trace of it with k low events and every k + 1 lists of its high inputs has a
+-- trace with the same low events and exactly those lists in its gaps.
 pub record Hides (b : List ℕ) : Type 0 where
   pub accepted : Accepted b
   pub hides : Noninterfering (machine b accepted) (observation b)
@@ -56,17 +56,19 @@ abbrev pub AllForeseen : List Answer → Type 0
 AllForeseen [] = Unit {0}
 AllForeseen (a ∷ rest) = Foreseen a × AllForeseen rest
 
--- After a first clear and the calls: the shelf begins with exactly the model's records, one behind the other, and then the end record; it is as
--- long as it was; every answer is the model's, and none is 12 or 14; the records on the shelf are the model's, and Count is their number; and
--- every part on the shelf hides its high inputs.
+-- After a first clear and the calls: the shelf begins with exactly the model's records, one behind the other, and then
+-- the end record; it is as long as it was; every answer is the model's, and none is 12 or 14; the records on the shelf
+-- are the model's, and Count is their number; and every part on the shelf hides its high inputs.
 pub record Meets (s : List ℕ) (calls : List Call) : Type 0 where
-  pub begins : Begins (shelf-after (clear ∷ calls) s) (flatten (records-after (length s) (clear ∷ calls) []) ++ end-bytes)
+  pub begins : Begins (shelf-after (clear ∷ calls) s)
+      (flatten (records-after (length s) (clear ∷ calls) []) ++ end-bytes)
   pub size : length (shelf-after (clear ∷ calls) s) ≡ length s
   pub same-answers : shelf-answers (clear ∷ calls) s ≡ answers (length s) (clear ∷ calls) []
   pub foreseen : AllForeseen (shelf-answers (clear ∷ calls) s)
   pub held : records (shelf-after (clear ∷ calls) s) ≡ records-after (length s) (clear ∷ calls) []
   pub counted : count (shelf-after (clear ∷ calls) s) ≡ gives (length (records-after (length s) (clear ∷ calls) []))
-  pub hidden : (i : ℕ) → i < length (records-after (length s) (clear ∷ calls) []) → Hides (part (shelf-after (clear ∷ calls) s) i)
+  pub hidden : (i : ℕ) → i < length (records-after (length s) (clear ∷ calls) [])
+      → Hides (part (shelf-after (clear ∷ calls) s) i)
 
 abbrev pub Demand3 : Type 0
 Demand3 = (s : List ℕ) → 6 ≤ length s → (calls : List Call) → BytesLoaded calls → Meets s calls

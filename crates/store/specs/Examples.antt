@@ -1,4 +1,5 @@
--- Shelves on which the calls and the model are computed: document 01's 17 and 16 bytes, and shelves that have no end record.
+-- Shelves on which the calls and the model are computed: document 01's 17 and 16 bytes, and shelves that have no end
+-- record.
 use Prim.Native.Nat.{ℕ}
 use mathlib.Core.Bool.{Bool, true, false, _&&_}
 use mathlib.Core.List.{List, [], _∷_, flatten}
@@ -18,6 +19,7 @@ use Rattle.store.specs.Model as model
 use Rattle.store.specs.Model.{Call, clear, load, hookup, answers}
 use Rattle.store.specs.Demand.{step, shelf-answers}
 
+-- Two answers are the same; breaks are not compared.
 abbrev same-answer : Answer → Answer → Bool
 same-answer (gives m) (gives n) = eqb m n
 same-answer (gives m) (refused k) = false
@@ -33,6 +35,7 @@ same-answer (clash d) (clash e) = eqb d e
 same-answer (clash d) (breaks v) = false
 same-answer (breaks w) a = false
 
+-- Two lists of answers are the same.
 abbrev same-answers : List Answer → List Answer → Bool
 same-answers [] [] = true
 same-answers [] (y ∷ ys) = false
@@ -41,19 +44,26 @@ same-answers (x ∷ xs) (y ∷ ys) = same-answer x y && same-answers xs ys
 
 -- The calls on a shelf of so many bytes 0xAA.
 unfoldable run : ℕ → List Call → List Answer
-unfolding judged hooked answered shelf-answers step shelf.clear shelf.load shelf.hookup hookup-of append-joined append passes obstacle-answer walk walk-at-most front records end-bytes flatten over body-length kind number
+unfolding judged hooked answered shelf-answers step shelf.clear shelf.load shelf.hookup hookup-of append-joined append
+    passes obstacle-answer walk walk-at-most front records end-bytes flatten over body-length kind number
 run n calls = shelf-answers calls (replicate n 0xAA)
 
+-- The calls in the model.
 unfoldable plainly : ℕ → List Call → List Answer
-unfolding judged hooked answered answers model.step model.load-record model.hookup-records model.append obstacle-answer flatten
+unfolding judged hooked answered answers model.step model.load-record model.hookup-records model.append
+    obstacle-answer flatten
 plainly n calls = answers n calls []
 
 -- The second and third appends are found again: Q's input 2 clashes with the joined part's internal event 2.
 abbrev calls : List Call
-calls = clear ∷ load P ∷ load Q ∷ hookup 0 1 ∷ hookup 1 2 ∷ hookup 0 0 ∷ hookup 2 7 ∷ load (take 5 P) ∷ clear ∷ hookup 0 0 ∷ []
+calls =
+    clear ∷ load P ∷ load Q ∷ hookup 0 1 ∷ hookup 1 2 ∷ hookup 0 0 ∷ hookup 2 7 ∷ load (take 5 P)
+    ∷ clear ∷ hookup 0 0 ∷ []
 
+-- Their answers.
 abbrev expected : List Answer
-expected = gives 0 ∷ gives 0 ∷ gives 1 ∷ gives 2 ∷ clash 2 ∷ clash 1 ∷ refused 13 ∷ refused 1 ∷ gives 0 ∷ refused 13 ∷ []
+expected =
+    gives 0 ∷ gives 0 ∷ gives 1 ∷ gives 2 ∷ clash 2 ∷ clash 1 ∷ refused 13 ∷ refused 1 ∷ gives 0 ∷ refused 13 ∷ []
 
 all-so : Bool
 unfolding run plainly

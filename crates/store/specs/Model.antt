@@ -1,4 +1,4 @@
--- The reference model (document 01: the plain bench): a list of records and a capacity. It never sees the bytes of a shelf.
+-- The reference model (document 01: the plain bench): a list of records and a capacity, never the bytes of a shelf.
 use Prim.Native.Nat.{ℕ, _+_}
 use mathlib.Core.Bool.{cond}
 use mathlib.Core.List.{List, [], _∷_, _++_, flatten}
@@ -22,21 +22,30 @@ pub record Kept : Type 0 where
   pub answer : Answer
   pub records : List (List ℕ)
 
+-- An answer, and the list that it leaves.
 abbrev pub kept : List (List ℕ) → Answer → Kept
 kept rs a = record { answer = a; records = rs }
 
--- An append happens only if the lengths of all records, the new one included, and six more fit the capacity; it answers with the number of
--- records before it.
+-- An append happens only if the lengths of all records, the new one included, and six more fit the capacity; it
+-- answers with the number of records before it.
 unfoldable pub append : ℕ → List (List ℕ) → List ℕ → Kept
 append capacity rs r =
-    cond (ltb capacity (length (flatten rs) + length r + 6)) (kept rs (answer.refused 15)) (kept (rs ++ r ∷ []) (answer.gives (length rs)))
+    cond (ltb capacity (length (flatten rs) + length r + 6)) (kept rs (answer.refused 15))
+    (kept (rs ++ r ∷ []) (answer.gives (length rs)))
 
+-- A record that passes Check is appended.
 unfoldable pub load-record : ℕ → List (List ℕ) → List ℕ → Kept
 load-record capacity rs r =
-    elim (verdict r) [ pass ↦ append capacity rs r | refused k ↦ kept rs (answer.refused k) | breaks v ↦ kept rs (answer.breaks v) ]
+    elim (verdict r) [
+      | pass ↦ append capacity rs r
+      | refused k ↦ kept rs (answer.refused k)
+      | breaks v ↦ kept rs (answer.breaks v)
+    ]
 
+-- The joined record of two parts is appended, if nothing stands between them.
 unfoldable pub hookup-records : ℕ → List (List ℕ) → List ℕ → List ℕ → Kept
-hookup-records capacity rs a b = elim (obstacle a b) [ none ↦ append capacity rs (joined a b) | some o ↦ kept rs (obstacle-answer o) ]
+hookup-records capacity rs a b =
+    elim (obstacle a b) [ none ↦ append capacity rs (joined a b) | some o ↦ kept rs (obstacle-answer o) ]
 
 -- One call: a part outside the list is 13.
 unfoldable pub step : ℕ → Call → List (List ℕ) → Kept

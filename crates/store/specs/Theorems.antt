@@ -1,4 +1,5 @@
--- What is proved of reading a shelf, as a statement over all bytes. Its proof stands in proofs/ under the name in lower case.
+-- What is proved of reading a shelf, as a statement over all bytes. Its proof stands in proofs/ under the name in
+-- lower case.
 use Prim.Native.Nat.{ℕ, _≤_}
 use mathlib.Core.Path.{_≡_}
 use mathlib.Core.Logic.{_↔_}

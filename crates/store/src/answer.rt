@@ -1,13 +1,7 @@
-// The answers of the calls on a shelf. specs/Answers.antt gives each its number and values.
-ghost use mathlib.Core.Path.{_≡_};
-ghost use Rattle.composite.specs.Answers.{obstacle-of};
-ghost use Rattle.store.specs.Answer.{obstacle-answer};
-ghost use Rattle.store.specs.Answers.{counts, clears, loads, hooks, says};
-use composite::answer::Obstacle;
-use part::Rejection;
+// The answer of a call on a shelf. specs/Answers.antt gives each case its meaning.
 use restrictive::Violation;
 
-// Any call's answer: a number, a refusal by its number, refusal 10 with its identifier, a break.
+// A number, a refusal by its number, refusal 10 with its identifier, a break.
 pub enum Answer {
     Gives(usize),
     Refused(usize),
@@ -15,97 +9,18 @@ pub enum Answer {
     Breaks(Violation),
 }
 
-// What Count finds: a number of records, or no end record (12).
-pub enum Counting {
-    Count(usize),
-    NoEnd,
-}
+impl Answer {
+    pub const OBSERVERS_DIFFER: usize = 9;
 
-pub enum Clearing {
-    Cleared,
-    // Fewer bytes than an end record has.
-    NoEnd,
-}
+    pub const TOO_LARGE: usize = 11;
 
-pub enum Loading {
-    // The number of the new part.
-    Part(usize),
-    NoEnd,
-    // The record's own refusal or break.
-    Refused(Rejection),
-    Break(Violation),
-    NoRoom,
-}
+    pub const NO_END: usize = 12;
 
-pub enum Hooking {
-    // The number of the new part.
-    Part(usize),
-    NoEnd,
     // A number for which there is no record.
-    NoPart,
+    pub const NO_PART: usize = 13;
+
     // A record that does not pass Check.
-    Unfit,
-    Stopped(Obstacle),
-    NoRoom,
-}
+    pub const UNFIT: usize = 14;
 
-impl Counting {
-    pub fn answer(self) -> Answer
-        ensures { λ r. ⌜ says r ≡ counts self ⌝ }
-    {
-        match self {
-            Counting::Count(n) => Answer::Gives(n),
-            Counting::NoEnd => Answer::Refused(12),
-        }
-    }
-}
-
-impl Clearing {
-    pub fn answer(self) -> Answer
-        ensures { λ r. ⌜ says r ≡ clears self ⌝ }
-    {
-        match self {
-            Clearing::Cleared => Answer::Gives(0),
-            Clearing::NoEnd => Answer::Refused(12),
-        }
-    }
-}
-
-impl Loading {
-    pub fn answer(self) -> Answer
-        ensures { λ r. ⌜ says r ≡ loads self ⌝ }
-    {
-        match self {
-            Loading::Part(n) => Answer::Gives(n),
-            Loading::NoEnd => Answer::Refused(12),
-            Loading::Refused(r) => Answer::Refused(r.number() as usize),
-            Loading::Break(v) => Answer::Breaks(v),
-            Loading::NoRoom => Answer::Refused(15),
-        }
-    }
-}
-
-fn stopped(o: Obstacle) -> Answer
-    ensures { λ r. ⌜ says r ≡ obstacle-answer (obstacle-of o) ⌝ }
-{
-    match o {
-        Obstacle::ObserversDiffer => Answer::Refused(9),
-        Obstacle::Clash(e) => Answer::Clash(e),
-        Obstacle::TooLarge => Answer::Refused(11),
-    }
-}
-
-impl Hooking {
-    pub fn answer(self) -> Answer
-        ensures { λ r. ⌜ says r ≡ hooks self ⌝ }
-    {
-        match self {
-            Hooking::Part(n) => Answer::Gives(n),
-            Hooking::NoEnd => Answer::Refused(12),
-            Hooking::NoPart => Answer::Refused(13),
-            Hooking::Unfit => Answer::Refused(14),
-            Hooking::Stopped(o) => stopped(o),
-            Hooking::NoRoom => Answer::Refused(15),
-        }
-    }
+    pub const NO_ROOM: usize = 15;
 }

@@ -3,51 +3,49 @@ ghost use mathlib.Core.Path.{_≡_};
 ghost use Prim.Native.Nat.{_≤_};
 ghost use lib.ListN.{length};
 ghost use Rattle.words.specs.Arrays.{padded};
-ghost use Rattle.part.specs.Limits.{max-record};
-ghost use Rattle.store.specs.Answers.{clears, loads, hooks};
+ghost use Rattle.part.specs.Format.{max-record};
+ghost use Rattle.store.specs.Answers.{answer-of};
 ghost use Rattle.store.specs.Calls.{clear, load, passes, hookup};
-use crate::answer::Clearing;
-use crate::answer::Counting;
-use crate::answer::Hooking;
-use crate::answer::Loading;
+use crate::answer::Answer;
 use crate::append::append;
-use crate::append::append_joined;
 use crate::append::put_end;
-use crate::reading::count;
-use crate::reading::part;
+use crate::found::Found;
+use crate::joined::append_joined;
+use crate::record::record_at;
+use crate::walk::walk;
 use part::Part;
 use restrictive::Verdict;
 use restrictive::call::check;
 use words::copy::lay;
 
 // The end record at the start.
-pub fn clear(s: &mut [u8]) -> Clearing
-    ensures { λ r. ⌜ clears r ≡ clear (now (s .entry)) .answer ⌝ }
+pub fn clear(s: &mut [u8]) -> Answer
+    ensures { λ r. ⌜ answer-of r ≡ clear (now (s .entry)) .answer ⌝ }
     ensures { λ r. ⌜ now (s .exit) ≡ clear (now (s .entry)) .shelf ⌝ }
 {
     if s.len() < Part::HEADER {
-        return Clearing::NoEnd;
+        return Answer::Refused(Answer::NO_END);
     }
     put_end(s, 0);
-    Clearing::Cleared
+    Answer::Gives(0)
 }
 
 // The record r behind the records that are there, if it passes Check.
-pub fn load(s: &mut [u8], r: &[u8]) -> Loading
-    ensures { λ a. ⌜ loads a ≡ load (now (s .entry)) (now (r .entry)) .answer ⌝ }
+pub fn load(s: &mut [u8], r: &[u8]) -> Answer
+    ensures { λ a. ⌜ answer-of a ≡ load (now (s .entry)) (now (r .entry)) .answer ⌝ }
     ensures { λ a. ⌜ now (s .exit) ≡ load (now (s .entry)) (now (r .entry)) .shelf ⌝ }
 {
-    let counted = count(s);
-    let Counting::Count(n) = counted else {
-        return Loading::NoEnd;
+    let found = walk(s);
+    let Found::End(n, at) = found else {
+        return Answer::Refused(Answer::NO_END);
     };
     let checked = check(r);
     match checked {
-        Verdict::Refused(k) => return Loading::Refused(k),
-        Verdict::Break(v) => return Loading::Break(v),
+        Verdict::Refused(k) => return Answer::Refused(k.number() as usize),
+        Verdict::Break(v) => return Answer::Breaks(v),
         Verdict::Pass => {}
     }
-    append(s, n, r)
+    append(s, n, at, r)
 }
 
 // r passes Check.
@@ -73,31 +71,31 @@ fn copied(r: &[u8]) -> [u8; Part::RECORD]
 }
 
 // The joined record of records i and j, behind the records that are there.
-pub fn hookup(s: &mut [u8], i: usize, j: usize) -> Hooking
-    ensures { λ r. ⌜ hooks r ≡ hookup (now (s .entry)) i j .answer ⌝ }
+pub fn hookup(s: &mut [u8], i: usize, j: usize) -> Answer
+    ensures { λ r. ⌜ answer-of r ≡ hookup (now (s .entry)) i j .answer ⌝ }
     ensures { λ r. ⌜ now (s .exit) ≡ hookup (now (s .entry)) i j .shelf ⌝ }
 {
-    let counted = count(s);
-    let Counting::Count(n) = counted else {
-        return Hooking::NoEnd;
+    let found = walk(s);
+    let Found::End(n, at) = found else {
+        return Answer::Refused(Answer::NO_END);
     };
     if n <= i {
-        return Hooking::NoPart;
+        return Answer::Refused(Answer::NO_PART);
     }
     if n <= j {
-        return Hooking::NoPart;
+        return Answer::Refused(Answer::NO_PART);
     }
-    let first = part(s, i);
+    let first = record_at(s, i);
     if !passes(first) {
-        return Hooking::Unfit;
+        return Answer::Refused(Answer::UNFIT);
     }
-    let second = part(s, j);
+    let second = record_at(s, j);
     if !passes(second) {
-        return Hooking::Unfit;
+        return Answer::Refused(Answer::UNFIT);
     }
     let p = first.len();
     let q = second.len();
     let a = copied(first);
     let b = copied(second);
-    append_joined(s, n, &a[..p], &b[..q])
+    append_joined(s, n, at, &a[..p], &b[..q])
 }

@@ -2,5 +2,8 @@
 pub mod answer;
 mod append;
 pub mod call;
+mod found;
+mod joined;
 pub mod reading;
+mod record;
 mod walk;

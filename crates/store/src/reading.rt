@@ -1,28 +1,20 @@
 // Count and Part (document 01, "The shelf").
 ghost use mathlib.Core.Path.{_≡_};
-ghost use Rattle.store.specs.Answers.{counts};
+ghost use Rattle.store.specs.Answers.{answer-of};
 ghost use Rattle.store.specs.Reading.{count, part};
-use crate::answer::Counting;
-use crate::walk::Standing;
-use crate::walk::front;
-use crate::walk::offset;
+use crate::answer::Answer;
+use crate::found::Found;
+use crate::record::record_at;
+use crate::walk::walk;
 
 // The number of records before the end record.
-pub fn count(s: &[u8]) -> Counting
-    ensures { λ r. ⌜ counts r ≡ count (now (s .entry)) ⌝ }
+pub fn count(s: &[u8]) -> Answer
+    ensures { λ r. ⌜ answer-of r ≡ count (now (s .entry)) ⌝ }
 {
-    let mut at = 0;
-    let mut n = 0;
-    loop {
-        let standing = front(s, at);
-        match standing {
-            Standing::End => return Counting::Count(n),
-            Standing::Neither => return Counting::NoEnd,
-            Standing::Record(size) => {
-                at += size;
-                n += 1;
-            }
-        }
+    let found = walk(s);
+    match found {
+        Found::End(n, _) => Answer::Gives(n),
+        Found::NoEnd => Answer::Refused(Answer::NO_END),
     }
 }
 
@@ -30,15 +22,13 @@ pub fn count(s: &[u8]) -> Counting
 pub fn part(s: &[u8], i: usize) -> &[u8]
     ensures { λ r. ⌜ now r ≡ part (now (s .entry)) i ⌝ }
 {
-    let counted = count(s);
+    let found = walk(s);
     let zero = 0;
-    let Counting::Count(n) = counted else {
+    let Found::End(n, _) = found else {
         return &s[zero..zero];
     };
     if n <= i {
         return &s[zero..zero];
     }
-    let start = offset(s, i);
-    let end = offset(s, i + 1);
-    &s[start..end]
+    record_at(s, i)
 }

@@ -1,28 +1,22 @@
 // The walk over a shelf (specs/Walk.antt).
 ghost use mathlib.Core.Path.{_≡_};
 ghost use mathlib.Core.Bool.{_&&_};
-ghost use mathlib.Core.List.{flatten};
-ghost use mathlib.Core.Option.{some};
 ghost use Prim.Native.Nat.{_+_, _≤_};
 ghost use lib.Dec.{eqb};
-ghost use lib.ListN.{length, take, drop};
+ghost use lib.ListN.{length, drop};
 ghost use Rattle.part.specs.Record.{body-length, kind};
-ghost use Rattle.store.specs.Answers.{stands};
-ghost use Rattle.store.specs.Walk.{front, walk, records};
+ghost use Rattle.store.specs.Found.{front-of, Finds};
+ghost use Rattle.store.specs.Walk.{front};
+use crate::found::Found;
+use crate::found::Standing;
 use part::Part;
 use words::le;
-
-// What stands at a place: the end record, a record of so many bytes, or neither.
-pub enum Standing {
-    End,
-    Record(usize),
-    Neither,
-}
 
 // Kind 0 with L = 0.
 fn is_end(s: &[u8], at: usize) -> bool
     requires { ⌜ at + 6 ≤ length (now s) ⌝ }
-    ensures { λ r. ⌜ r ≡ (eqb (kind (drop at (now (s .entry)))) 0 && eqb (body-length (drop at (now (s .entry)))) 0) ⌝ }
+    ensures { λ r. ⌜ r ≡ (eqb (kind (drop at (now (s .entry)))) 0
+        && eqb (body-length (drop at (now (s .entry)))) 0) ⌝ }
 {
     if le::u16_at(s, at + 4) != 0 {
         return false;
@@ -30,9 +24,10 @@ fn is_end(s: &[u8], at: usize) -> bool
     le::u32_at(s, at) == 0
 }
 
-pub fn front(s: &[u8], at: usize) -> Standing
+// What stands at a place.
+fn front(s: &[u8], at: usize) -> Standing
     requires { ⌜ at ≤ length (now s) ⌝ }
-    ensures { λ r. ⌜ stands r ≡ front (drop at (now (s .entry))) ⌝ }
+    ensures { λ r. ⌜ front-of r ≡ front (drop at (now (s .entry))) ⌝ }
 {
     let left = s.len() - at;
     if left < Part::HEADER {
@@ -48,18 +43,21 @@ pub fn front(s: &[u8], at: usize) -> Standing
     Standing::Record(size)
 }
 
-// Where record k starts; the end record, where k is the number of records.
-pub fn offset(s: &[u8], k: usize) -> usize
-    requires { ⌜ walk (now s) ≡ some (records (now s)) ⌝ }
-    requires { ⌜ k ≤ length (records (now s)) ⌝ }
-    ensures { λ r. ⌜ r ≡ length (flatten (take k (records (now (s .entry))))) ⌝ }
-    ensures { λ r. ⌜ r ≤ length (now (s .entry)) ⌝ }
+// Goes from record to record, to the end record.
+pub fn walk(s: &[u8]) -> Found
+    ensures { λ r. ⌜ Finds r (now (s .entry)) ⌝ }
 {
     let mut at = 0;
-    let mut i = 0;
-    while i < k {
-        at += Part::HEADER + le::u32_at(s, at);
-        i += 1;
+    let mut n = 0;
+    loop {
+        let standing = front(s, at);
+        match standing {
+            Standing::End => return Found::End(n, at),
+            Standing::Neither => return Found::NoEnd,
+            Standing::Record(size) => {
+                at += size;
+                n += 1;
+            }
+        }
     }
-    at
 }

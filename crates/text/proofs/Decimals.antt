@@ -1,4 +1,4 @@
--- The laws of decimal numbers. Assumes nothing.
+-- The laws of decimal numbers.
 use Prim.Native.Nat.{ℕ, zero, suc, _+_, _/_, _^_, _≤_, _<_}
 use mathlib.Core.Path.{_≡_, refl, sym, ap, _∙_}
 use mathlib.Core.List.{List, [], _∷_, _++_}
@@ -6,7 +6,7 @@ use native.Mathlib.Decide.{decLt}
 use native.Mathlib.Omega.{arith}
 use lib.ListN.{length, set, length-append}
 use Rattle.words.specs.Laid.{over}
-use Rattle.words.proofs.Laying.{over-one, over-last}
+use Rattle.words.proofs.LaidLaws.{over-one, over-last}
 use Rattle.text.specs.Decimal.{last-digit, digits, decimal}
 
 digits-one : (k n : ℕ) → n < 10 → digits (suc k) n ≡ last-digit n ∷ []
@@ -19,7 +19,8 @@ digits-more : (k n : ℕ) → 10 ≤ n → digits (suc k) n ≡ digits k (n / 10
 unfolding digits
 digits-more k n h = go (n / 10) refl
   where
-    go : (q : ℕ) → n / 10 ≡ q → elim q [ zero ↦ [] | suc r ↦ digits k (suc r) ] ++ (last-digit n ∷ []) ≡ digits k q ++ (last-digit n ∷ [])
+    go : (q : ℕ) → n / 10 ≡ q
+        → elim q [ zero ↦ [] | suc r ↦ digits k (suc r) ] ++ (last-digit n ∷ []) ≡ digits k q ++ (last-digit n ∷ [])
     go zero e = absurd (omega arith)
     go (suc q) e = refl
 
@@ -44,7 +45,8 @@ decimal-one n h = digits-one n n h
 pub decimal-more : (n : ℕ) → 10 ≤ n → decimal n ≡ decimal (n / 10) ++ (last-digit n ∷ [])
 unfolding decimal
 decimal-more n h =
-    digits-more n n h ∙ ap (λ (ds : List ℕ). ds ++ (last-digit n ∷ [])) (digits-room n (suc (n / 10)) (n / 10) (omega arith) (omega arith))
+    digits-more n n h ∙ ap (λ (ds : List ℕ). ds ++ (last-digit n ∷ []))
+    (digits-room n (suc (n / 10)) (n / 10) (omega arith) (omega arith))
 
 -- How many digits: one, or one more than n / 10 has.
 pub length-one : (n : ℕ) → n < 10 → length (decimal n) ≡ 1
@@ -85,8 +87,10 @@ number-turn out at i n h e =
     ∙ sym (over-last out at (decimal (n / 10)) (last-digit n))
     ∙ ap (over out at) (sym (decimal-more n h))
 
-pub number-end : (out : List ℕ) (at i n : ℕ) → n < 10 → i + 1 ≡ at + length (decimal n) → set out i (last-digit n) ≡ over out at (decimal n)
+pub number-end : (out : List ℕ) (at i n : ℕ) → n < 10 → i + 1 ≡ at + length (decimal n)
+    → set out i (last-digit n) ≡ over out at (decimal n)
 number-end out at i n h e =
     let l = length-one n h in
     let place : i ≡ at = omega arith in
-    ap (λ (k : ℕ). set out k (last-digit n)) place ∙ sym (over-one out at (last-digit n)) ∙ ap (over out at) (sym (decimal-one n h))
+    ap (λ (k : ℕ). set out k (last-digit n)) place ∙ sym (over-one out at (last-digit n)) ∙ ap (over out at)
+    (sym (decimal-one n h))

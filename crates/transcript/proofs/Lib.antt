@@ -1,1 +1,1 @@
-pub mod Showing
+pub mod Lines

@@ -32,7 +32,9 @@ unfolding answer-line line decimal digits
 refused-is = refl
 
 -- "refused 10 identifier 7"
-pub clash-is : answer-line part-text (clash 7) ≡ 114 ∷ 101 ∷ 102 ∷ 117 ∷ 115 ∷ 101 ∷ 100 ∷ 32 ∷ 49 ∷ 48 ∷ 32 ∷ 105 ∷ 100 ∷ 101 ∷ 110 ∷ 116 ∷ 105 ∷ 102 ∷ 105 ∷ 101 ∷ 114 ∷ 32 ∷ 55 ∷ 10 ∷ []
+pub clash-is : answer-line part-text (clash 7)
+    ≡ 114 ∷ 101 ∷ 102 ∷ 117 ∷ 115 ∷ 101 ∷ 100 ∷ 32 ∷ 49 ∷ 48 ∷ 32 ∷ 105 ∷ 100 ∷ 101 ∷ 110 ∷ 116 ∷ 105 ∷ 102 ∷
+    105 ∷ 101 ∷ 114 ∷ 32 ∷ 55 ∷ 10 ∷ []
 unfolding answer-line decimal digits
 clash-is = refl
 
@@ -42,7 +44,8 @@ unfolding part-line shown decimal digits
 no-bytes = refl
 
 -- "part bytes 2 00ff"
-pub two-bytes : part-line (0 ∷ 255 ∷ []) ≡ 112 ∷ 97 ∷ 114 ∷ 116 ∷ 32 ∷ 98 ∷ 121 ∷ 116 ∷ 101 ∷ 115 ∷ 32 ∷ 50 ∷ 32 ∷ 48 ∷ 48 ∷ 102 ∷ 102 ∷ 10 ∷ []
+pub two-bytes : part-line (0 ∷ 255 ∷ [])
+    ≡ 112 ∷ 97 ∷ 114 ∷ 116 ∷ 32 ∷ 98 ∷ 121 ∷ 116 ∷ 101 ∷ 115 ∷ 32 ∷ 50 ∷ 32 ∷ 48 ∷ 48 ∷ 102 ∷ 102 ∷ 10 ∷ []
 unfolding part-line shown hex decimal digits
 two-bytes = refl
 
@@ -52,7 +55,8 @@ unfolding shelf-line hex
 shelf-is = refl
 
 -- "refused 12" on a shelf of one byte, which stays; six zeros on one of seven
-pub clear-refused : turn clear (7 ∷ []) ≡ record { line = 114 ∷ 101 ∷ 102 ∷ 117 ∷ 115 ∷ 101 ∷ 100 ∷ 32 ∷ 49 ∷ 50 ∷ 10 ∷ []; shelf = 7 ∷ [] }
+pub clear-refused : turn clear (7 ∷ [])
+    ≡ record { line = 114 ∷ 101 ∷ 102 ∷ 117 ∷ 115 ∷ 101 ∷ 100 ∷ 32 ∷ 49 ∷ 50 ∷ 10 ∷ []; shelf = 7 ∷ [] }
 unfolding turn shelf.clear answer-line line decimal digits
 clear-refused = refl
 
@@ -62,11 +66,13 @@ unfolding turn shelf.clear shelf.end-bytes over answer-line decimal digits
 clear-turn = refl
 
 -- "truncated" and "unknown"; at the end nothing
-pub truncated-turn : turn truncated (7 ∷ []) ≡ record { line = 116 ∷ 114 ∷ 117 ∷ 110 ∷ 99 ∷ 97 ∷ 116 ∷ 101 ∷ 100 ∷ 10 ∷ []; shelf = 7 ∷ [] }
+pub truncated-turn : turn truncated (7 ∷ [])
+    ≡ record { line = 116 ∷ 114 ∷ 117 ∷ 110 ∷ 99 ∷ 97 ∷ 116 ∷ 101 ∷ 100 ∷ 10 ∷ []; shelf = 7 ∷ [] }
 unfolding turn
 truncated-turn = refl
 
-pub unknown-turn : turn unknown (7 ∷ []) ≡ record { line = 117 ∷ 110 ∷ 107 ∷ 110 ∷ 111 ∷ 119 ∷ 110 ∷ 10 ∷ []; shelf = 7 ∷ [] }
+pub unknown-turn : turn unknown (7 ∷ [])
+    ≡ record { line = 117 ∷ 110 ∷ 107 ∷ 110 ∷ 111 ∷ 119 ∷ 110 ∷ 10 ∷ []; shelf = 7 ∷ [] }
 unfolding turn
 unknown-turn = refl
 

@@ -8,6 +8,7 @@ use Rattle.store.specs.Reading.{count, part}
 use Rattle.store.specs.Calls.{Left, clear, load, hookup}
 use Rattle.transcript.specs.Lines.{part-text, count-text, answer-line, part-line, truncated-text, unknown-text}
 
+-- The line of an operation, and the shelf after it.
 pub record Turn : Type 0 where
   pub line : List ℕ
   pub shelf : List ℕ
@@ -20,7 +21,8 @@ called word l = record { line = answer-line word (l .answer); shelf = l .shelf }
 abbrev pub told : List ℕ → List ℕ → Turn
 told line s = record { line = line; shelf = s }
 
--- Clear's number stands alone, that of Load and Hookup behind "part ", Count's behind "count ". At the end of the script there is no line.
+-- Clear's number stands alone, that of Load and Hookup behind "part ", Count's behind "count ". At the end of the
+-- script there is no line.
 unfoldable pub turn : Operation → List ℕ → Turn
 turn script.clear s = called [] (clear s)
 turn (script.load r) s = called part-text (load s r)

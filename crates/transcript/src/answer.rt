@@ -5,7 +5,7 @@ ghost use Prim.Native.Nat.{_≤_};
 ghost use lib.ListN.{length, drop};
 ghost use Rattle.text.specs.Decimal.{decimal};
 ghost use Rattle.report.specs.Line.{line-end};
-ghost use Rattle.store.specs.Answers.{says};
+ghost use Rattle.store.specs.Answers.{answer-of};
 ghost use Rattle.transcript.specs.Lines.{answer-line};
 use report::violation;
 use store::answer::Answer;
@@ -23,13 +23,13 @@ fn numbered(words: &[u8], n: usize, out: &mut [u8]) -> usize
     lay(b"\n", out, at)
 }
 
-// Writes the answer's line to the start of out, and answers its length. The rest of out stays. The word stands before a number that the answer
-// gives.
+// Writes the answer's line to the start of out, and answers its length. The rest of out stays. The word stands before
+// a number that the answer gives.
 pub fn line(word: &[u8], a: Answer, out: &mut [u8]) -> usize
     requires { ⌜ length (now word) ≤ 32 ⌝ }
     requires { ⌜ 160 ≤ length (now out) ⌝ }
-    ensures { λ r. ⌜ r ≡ length (answer-line (now (word .entry)) (says a)) ⌝ }
-    ensures { λ r. ⌜ now (out .exit) ≡ answer-line (now (word .entry)) (says a) ++ drop r (now (out .entry)) ⌝ }
+    ensures { λ r. ⌜ r ≡ length (answer-line (now (word .entry)) (answer-of a)) ⌝ }
+    ensures { λ r. ⌜ now (out .exit) ≡ answer-line (now (word .entry)) (answer-of a) ++ drop r (now (out .entry)) ⌝ }
 {
     match a {
         Answer::Gives(n) => numbered(word, n, out),

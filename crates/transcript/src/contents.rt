@@ -1,5 +1,5 @@
-// The lines with bytes in them (specs/Lines.antt). Each function writes a line to the start of out and answers its length; the rest of out
-// stays.
+// The lines with bytes in them (specs/Lines.antt). Each function writes a line to the start of out and answers its
+// length; the rest of out stays.
 ghost use mathlib.Core.Path.{_≡_};
 ghost use mathlib.Core.List.{_++_};
 ghost use Prim.Native.Nat.{_+_, _*_, _≤_};

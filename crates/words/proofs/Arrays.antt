@@ -14,15 +14,19 @@ module _ {holds : ℕ → ℕ → Type 0} where
   filled-start e = record { size = e; words = λ s h. absurd (omega arith); kept = λ s h. refl }
 
   pub filled-none : {xs : List ℕ} → xs ≡ replicate 64 0 → Filled holds 0 (replicate 64 0) xs
-  filled-none e = subst (λ (xs : List ℕ). Filled holds 0 (replicate 64 0) xs) (sym e) (filled-start (length-replicate {A = ℕ} 64 0))
+  filled-none e =
+      subst (λ (xs : List ℕ). Filled holds 0 (replicate 64 0) xs) (sym e) (filled-start (length-replicate {A = ℕ} 64 0))
 
-  pub filled-more : {old xs : List ℕ} {s : ℕ} (x : ℕ) → s < 64 → Filled holds s old xs → holds s x → Filled holds (s + 1) old (set xs s x)
+  pub filled-more : {old xs : List ℕ} {s : ℕ} (x : ℕ) → s < 64 → Filled holds s old xs → holds s x
+      → Filled holds (s + 1) old (set xs s x)
   filled-more {old} {xs} {s} x l before here = record {
     size = length-set xs s x ∙ before .size;
     words = λ u h.
         elim (decLt u s) [
           | yes k ↦ subst (holds u) (sym (getD-set-other xs s u x 0 (ne-of-lt k))) (before .words u k)
-          | no k ↦ let e : s ≡ u = omega arith in subst (λ (v : ℕ). holds v (getD (set xs s x) v 0)) e (subst (holds s) (sym (getD-set-same xs s x 0 (omega (arith, before .size)))) here)
+          | no k ↦ let e : s ≡ u = omega arith in
+              subst (λ (v : ℕ). holds v (getD (set xs s x) v 0)) e
+              (subst (holds s) (sym (getD-set-same xs s x 0 (omega (arith, before .size)))) here)
         ];
     kept = λ u h. getD-set-other xs s u x 0 (λ e. omega arith) ∙ before .kept u (omega arith);
   }
@@ -31,8 +35,32 @@ module _ {holds : ℕ → ℕ → Type 0} where
   filled-end {old} {xs} e before = subst (λ (n : ℕ). Filled holds n old xs) e before
 
 -- What each word holds, said in another way.
-pub filled-as : {holds says : ℕ → ℕ → Type 0} {old xs : List ℕ} {n : ℕ} → ((s x : ℕ) → s < n → holds s x → says s x) → Filled holds n old xs → Filled says n old xs
-filled-as {xs = xs} f before = record { size = before .size; words = λ s h. f s (getD xs s 0) h (before .words s h); kept = before .kept }
+pub filled-as : {holds says : ℕ → ℕ → Type 0} {old xs : List ℕ} {n : ℕ} → ((s x : ℕ) → s < n → holds s x → says s x)
+    → Filled holds n old xs → Filled says n old xs
+filled-as {xs = xs} f before =
+    record { size = before .size; words = λ s h. f s (getD xs s 0) h (before .words s h); kept = before .kept }
+
+-- Words that hold what they should are filled as they are.
+pub filled-already : {holds : ℕ → ℕ → Type 0} {xs : List ℕ} {n : ℕ} → length xs ≡ 64
+    → ((s : ℕ) → s < n → holds s (getD xs s 0))
+    → Filled holds n xs xs
+filled-already e f = record { size = e; words = f; kept = λ s h. refl }
+
+-- What the words hold, told another way.
+pub filled-told : {holds says : ℕ → ℕ → Type 0} {old xs : List ℕ} {n : ℕ} → Filled holds n old xs
+    → ((s : ℕ) → s < n → says s (getD xs s 0))
+    → Filled says n old xs
+filled-told before f = record { size = before .size; words = f; kept = before .kept }
+
+-- What is filled is filled once more.
+pub filled-again : {first next both : ℕ → ℕ → Type 0} {old xs ys : List ℕ} {n : ℕ}
+    → ((s : ℕ) → s < n → first s (getD xs s 0) → next s (getD ys s 0) → both s (getD ys s 0))
+    → Filled first n old xs → Filled next n xs ys → Filled both n old ys
+filled-again f p q = record {
+  size = q .size;
+  words = λ s h. f s h (p .words s h) (q .words s h);
+  kept = λ s h. q .kept s h ∙ p .kept s h;
+}
 
 -- ---- zeros behind a list
 
@@ -48,7 +76,7 @@ module _ (n : ℕ) (xs : List ℕ) where
   -- A list over the start of n zeros.
   pub padded-over : {ys : List ℕ} → ys ≡ xs ++ drop (length xs) (replicate n 0) → ys ≡ padded n xs
   unfolding padded
-  padded-over e = e ∙ ap (λ (l : List ℕ). xs ++ l) (drop-zeros (length xs) n)
+  padded-over e = e ∙ rw (drop-zeros _ n)
 
   pub padded-front : {ys : List ℕ} → ys ≡ padded n xs → take (length xs) ys ≡ xs
   unfolding padded

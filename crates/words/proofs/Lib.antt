@@ -1,5 +1,5 @@
 pub mod Sets
 pub mod Pairs
 pub mod LittleEndian
-pub mod Laying
+pub mod LaidLaws
 pub mod Arrays

@@ -1,9 +1,11 @@
--- The laws of little-endian numbers: splitting, bounds, and that reading and writing undo each other. Assumes nothing.
+-- The laws of little-endian numbers: splitting, bounds, and that reading and writing undo each other.
 use Prim.Native.Nat.{ℕ, zero, suc, _+_, _*_, _/_, _%_, _^_, _≤_, _<_, suc-le-suc}
 use mathlib.Core.Path.{_≡_, refl, sym, ap, _∙_, subst}
 use mathlib.Core.Logic.{⊎-elim}
 use mathlib.Core.List.{List, [], _∷_, _++_, append-assoc, append-nil}
-use native.Mathlib.Nat.{zero-add, suc-add, add-zero, add-assoc, pow-succ', one-mul, le-step, lt-suc-self, le-of-suc-le-suc, not-suc-le-zero, eq-or-lt-of-le, zero-mul, mul-one, mul-comm, div-one, div-div-eq-div-mul}
+use native.Mathlib.Nat.{zero-add, suc-add, add-zero, add-assoc, pow-succ', one-mul, le-step, lt-suc-self}
+use native.Mathlib.Nat.{le-of-suc-le-suc, not-suc-le-zero, eq-or-lt-of-le, zero-mul, mul-one, mul-comm, div-one}
+use native.Mathlib.Nat.{div-div-eq-div-mul}
 use native.Mathlib.Numerals.{add-one}
 use native.Mathlib.Decide.{decLt}
 use native.Mathlib.Omega.{arith}
@@ -24,12 +26,12 @@ number-split zero k b at =
     ∙ ap (λ (i : ℕ). number k b i) (sym (add-zero at))
     ∙ (let r = number k b (at + 0) in omega arith)
 number-split (suc j) k b at =
-    let rest = number-split j k b (at + 1) in
+    let rest = number-split j k b _ in
     let shift : at + 1 + j ≡ at + suc j = omega arith in
     ap (λ (n : ℕ). number n b at) (suc-add j k)
     ∙ ap (λ (n : ℕ). byte b at + 256 * n) (rest ∙ ap (λ (i : ℕ). number j b (at + 1) + 256 ^ j * number k b i) shift)
-    ∙ regroup (byte b at) (number j b (at + 1)) (256 ^ j) (number k b (at + suc j))
-    ∙ ap (λ (p : ℕ). byte b at + 256 * number j b (at + 1) + p * number k b (at + suc j)) (sym (pow-succ' 256 j))
+    ∙ regroup _ _ _ _
+    ∙ rw (← pow-succ' 256 j)
   where
     regroup : (a x p y : ℕ) → a + 256 * (x + p * y) ≡ a + 256 * x + 256 * p * y
     regroup a x p y = omega arith
@@ -47,9 +49,10 @@ number-lt (suc k) b at h =
 pub length-digits : (k v : ℕ) → length (digits k v) ≡ k
 unfolding digits
 length-digits zero v = refl
-length-digits (suc k) v = ap suc (length-digits k (v / 256))
+length-digits (suc k) v = ap suc (length-digits k _)
 
-pub length-each : (n k : ℕ) (chunk : ℕ → List ℕ) → ((i : ℕ) → i < n → length (chunk i) ≡ k) → length (each n chunk) ≡ n * k
+pub length-each : (n k : ℕ) (chunk : ℕ → List ℕ) → ((i : ℕ) → i < n → length (chunk i) ≡ k)
+    → length (each n chunk) ≡ n * k
 unfolding each
 length-each zero k chunk h = omega arith
 length-each (suc n) k chunk h =
@@ -60,7 +63,8 @@ length-each (suc n) k chunk h =
 -- ---- reading
 
 -- A number is read alike wherever the same bytes stand.
-pub number-same : (k : ℕ) (b c : List ℕ) (at to : ℕ) → ((i : ℕ) → i < k → byte b (at + i) ≡ byte c (to + i)) → number k b at ≡ number k c to
+pub number-same : (k : ℕ) (b c : List ℕ) (at to : ℕ) → ((i : ℕ) → i < k → byte b (at + i) ≡ byte c (to + i))
+    → number k b at ≡ number k c to
 unfolding number
 number-same zero b c at to h = refl
 number-same (suc k) b c at to h =
@@ -71,7 +75,8 @@ number-same (suc k) b c at to h =
 
 -- Behind xs the bytes of ys are read (a byte: `getD-append-add` of `lib.Seq`) ..
 pub number-behind : (k : ℕ) (xs ys : List ℕ) (at : ℕ) → number k (xs ++ ys) (length xs + at) ≡ number k ys at
-number-behind k xs ys at = number-same k (xs ++ ys) ys (length xs + at) at (λ i l. rw add-assoc (getD-append-add xs ys (at + i) 0))
+number-behind k xs ys at =
+    number-same k (xs ++ ys) ys (length xs + at) at (λ i l. rw add-assoc (getD-append-add xs ys (at + i) 0))
 
 -- .. and inside xs those of xs (a byte: `List·getD-append` of `lib.ListN`).
 pub number-inside : (k : ℕ) (xs ys : List ℕ) (at : ℕ) → at + k ≤ length xs → number k (xs ++ ys) at ≡ number k xs at
@@ -86,10 +91,12 @@ pub number-digits : (k v : ℕ) (rest : List ℕ) → v < 256 ^ k → number k (
 unfolding number digits
 number-digits zero v rest h = omega arith
 number-digits (suc k) v rest h =
-    let high = number-behind k (v % 256 ∷ []) (digits k (v / 256) ++ rest) 0 ∙ number-digits k (v / 256) rest (omega (arith, pow-succ' 256 k)) in
+    let high = number-behind k (v % 256 ∷ []) (digits k (v / 256) ++ rest) 0
+    ∙ number-digits k (v / 256) rest (omega (arith, pow-succ' 256 k)) in
     omega arith
 
-pub digits-number : (k : ℕ) (b : List ℕ) (at : ℕ) → Bytes b → at + k ≤ length b → digits k (number k b at) ≡ take k (drop at b)
+pub digits-number : (k : ℕ) (b : List ℕ) (at : ℕ) → Bytes b → at + k ≤ length b
+    → digits k (number k b at) ≡ take k (drop at b)
 unfolding number digits
 digits-number zero b at h l = refl
 digits-number (suc k) b at h l =
@@ -105,7 +112,8 @@ digits-number (suc k) b at h l =
 -- ---- pieces one behind the other
 
 -- Two parts of b that follow each other are one part.
-pub part-join : (j k : ℕ) (b : List ℕ) (at : ℕ) → take j (drop at b) ++ take k (drop (at + j) b) ≡ take (j + k) (drop at b)
+pub part-join : (j k : ℕ) (b : List ℕ) (at : ℕ)
+    → take j (drop at b) ++ take k (drop (at + j) b) ≡ take (j + k) (drop at b)
 part-join j k b at = rw (take-add, drop-drop)
 
 pub each-same : (n : ℕ) (f g : ℕ → List ℕ) → ((i : ℕ) → i < n → f i ≡ g i) → each n f ≡ each n g
@@ -116,12 +124,10 @@ each-same (suc n) f g h = rw (each-same n f g (λ i l. h i (le-step l)), h n (lt
 -- The first m pieces, and the n behind them.
 pub each-add : (m n : ℕ) (f : ℕ → List ℕ) → each (m + n) f ≡ each m f ++ each n (λ i. f (m + i))
 unfolding each
-each-add m zero f = ap (λ (k : ℕ). each k f) (add-zero m) ∙ sym (append-nil (each m f))
+each-add m zero f = rw (add-zero m) (sym (append-nil (each m f)))
 each-add m (suc n) f =
     let whole : m + suc n ≡ suc (m + n) = omega arith in
-    ap (λ (k : ℕ). each k f) whole
-    ∙ ap (λ (l : List ℕ). l ++ f (m + n)) (each-add m n f)
-    ∙ append-assoc (each m f) (each n (λ i. f (m + i))) (f (m + n))
+    rw (whole, each-add m n f) (append-assoc (each m f) (each n (λ i. f (m + i))) (f (m + n)))
 
 -- Pieces numbered by pairs.
 pub each-product : (m n : ℕ) (f : ℕ → List ℕ) → each m (λ a. each n (λ b. f (a * n + b))) ≡ each (m * n) f
@@ -129,18 +135,18 @@ unfolding each
 each-product zero n f = ap (λ (k : ℕ). each k f) (sym (zero-mul n))
 each-product (suc m) n f =
     let whole : m * n + n ≡ suc m * n = omega arith in
-    ap (λ (l : List ℕ). l ++ each n (λ b. f (m * n + b))) (each-product m n f)
-    ∙ sym (each-add (m * n) n f)
-    ∙ ap (λ (k : ℕ). each k f) whole
+    rw (each-product m n f) (sym (each-add _ n f)
+    ∙ ap (λ (k : ℕ). each k f) whole)
 
 -- The bytes of a number, in two parts.
 pub digits-split : (j k v : ℕ) → digits (j + k) v ≡ digits j v ++ digits k (v / 256 ^ j)
 unfolding digits
-digits-split zero k v = ap (λ (n : ℕ). digits n v) (zero-add k) ∙ ap (digits k) (sym (div-one v))
+digits-split zero k v = rw (zero-add k) (ap (digits k) (sym (div-one v)))
 digits-split (suc j) k v =
     ap (λ (n : ℕ). digits n v) (suc-add j k)
-    ∙ ap (λ (l : List ℕ). v % 256 ∷ l) (digits-split j k (v / 256))
-    ∙ ap (λ (q : ℕ). v % 256 ∷ (digits j (v / 256) ++ digits k q)) (div-div-eq-div-mul v 256 (256 ^ j) ∙ ap (λ (p : ℕ). v / p) (sym (pow-succ' 256 j)))
+    ∙ ap (λ (l : List ℕ). v % 256 ∷ l) (digits-split j k _)
+    ∙ ap (λ (q : ℕ). v % 256 ∷ (digits j (v / 256) ++ digits k q))
+    (div-div-eq-div-mul v 256 (256 ^ j) ∙ rw (← pow-succ' 256 j))
 
 -- Pieces of k bytes that are the parts of b from `at` on: together they are one part of b.
 pub each-parts : (n k : ℕ) (chunk : ℕ → List ℕ) (b : List ℕ) (at : ℕ)
@@ -154,11 +160,12 @@ each-parts (suc n) k chunk b at h =
     rw (each-parts n k chunk b at (λ i l. h i (le-step l)), h n (lt-suc-self n), place, part-join, whole)
 
 -- The bytes of b from `at` on, one by one.
-pub bytes-part : (n : ℕ) (b : List ℕ) (at : ℕ) → at + n ≤ length b → each n (λ i. byte b (at + i) ∷ []) ≡ take n (drop at b)
+pub bytes-part : (n : ℕ) (b : List ℕ) (at : ℕ) → at + n ≤ length b
+    → each n (λ i. byte b (at + i) ∷ []) ≡ take n (drop at b)
 bytes-part n b at h =
     each-parts n 1 (λ i. byte b (at + i) ∷ []) b at
     (λ i l. let within : at + i < length b = omega arith in rw (one-mul, drop-cons b (at + i) 0))
-    ∙ ap (λ (j : ℕ). take j (drop at b)) (mul-one n)
+    ∙ rw (mul-one n)
 
 -- ---- lists of bytes
 
@@ -180,7 +187,7 @@ bytes-append (h then t) q = h then bytes-append t q
 pub bytes-digits : (k v : ℕ) → AllBytes (digits k v)
 unfolding digits
 bytes-digits zero v = done
-bytes-digits (suc k) v = let low : v % 256 < 256 = omega arith in low then bytes-digits k (v / 256)
+bytes-digits (suc k) v = let low : v % 256 < 256 = omega arith in low then bytes-digits k _
 
 pub bytes-each : (n : ℕ) (chunk : ℕ → List ℕ) → ((i : ℕ) → i < n → AllBytes (chunk i)) → AllBytes (each n chunk)
 unfolding each
@@ -208,24 +215,24 @@ stands-back {b} {at} xs ys w = record {
       ∙ drop-append-seam xs (ys ++ w .rest);
 }
 
-pub stands-each : {b : List ℕ} {at : ℕ} (n k : ℕ) (chunk : ℕ → List ℕ) → ((i : ℕ) → i < n → length (chunk i) ≡ k) → Stands (each n chunk) b at
+pub stands-each : {b : List ℕ} {at : ℕ} (n k : ℕ) (chunk : ℕ → List ℕ) → ((i : ℕ) → i < n → length (chunk i) ≡ k)
+    → Stands (each n chunk) b at
     → (i : ℕ) → i < n → Stands (chunk i) b (at + k * i)
 unfolding each
 stands-each zero k chunk h w i l = absurd (not-suc-le-zero l)
 stands-each {b} {at} (suc n) k chunk h w i l =
     let below : (j : ℕ) → j < n → length (chunk j) ≡ k = λ j m. h j (le-step m) in
-    let place : length (each n chunk) ≡ k * n = length-each n k chunk below ∙ mul-comm n k in
+    let place : length (each n chunk) ≡ k * n = length-each n k _ below ∙ mul-comm n k in
     ⊎-elim
     (λ q. rw q (rw place at (stands-back (each n chunk) (chunk n) w)))
     (λ m. stands-each n k chunk below (stands-front (each n chunk) (chunk n) w) i m)
     (eq-or-lt-of-le (le-of-suc-le-suc l))
 
 pub stands-byte : {x : ℕ} {xs b : List ℕ} {at : ℕ} → Stands (x ∷ xs) b at → byte b at ≡ x
-stands-byte {b} {at} w = ap (λ (i : ℕ). byte b i) (sym (add-zero at)) ∙ sym (getD-drop at b 0 0) ∙ ap (λ (l : List ℕ). byte l 0) (w .here)
+stands-byte {b} {at} w = rw (← add-zero at) (sym (getD-drop at b 0 0) ∙ ap (λ (l : List ℕ). byte l 0) (w .here))
 
 pub stands-number : {b : List ℕ} {at : ℕ} (k v : ℕ) → v < 256 ^ k → Stands (digits k v) b at → number k b at ≡ v
 stands-number {b} {at} k v h w =
-    ap (λ (i : ℕ). number k b i) (sym (add-zero at))
-    ∙ sym (number-drop k b at 0)
+    rw (← add-zero at) (sym (number-drop k b at 0)
     ∙ ap (λ (l : List ℕ). number k l 0) (w .here)
-    ∙ number-digits k v (w .rest) h
+    ∙ number-digits k v _ h)

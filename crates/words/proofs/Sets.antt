@@ -1,9 +1,10 @@
--- The laws of sets of states. Membership after each operation, when two sets are equal, and the lowest member. Assumes nothing.
+-- The laws of sets of states. Membership after each operation, when two sets are equal, and the lowest member.
 use Prim.Native.Nat.{ℕ, zero, suc, _+_, _-_, _*_, _/_, _%_, _^_, _≤_, _<_, min, max}
 use mathlib.Core.Path.{_≡_, refl, sym, ap, _∙_, subst}
 use mathlib.Core.Bool.{Bool, true, false, not, _||_, _&&_, cond}
 use mathlib.Core.Logic.{_↔_, ⊎-elim}
-use native.Mathlib.Nat.{div-one, div-eq-of-lt, mod-lt, lt-of-lt-of-le, pow-succ', zero-div, mod-eq-of-lt, one-mul, le-div-iff-mul-le, lt-of-not-le, le-step, lt-suc-self}
+use native.Mathlib.Nat.{div-one, div-eq-of-lt, mod-lt, lt-of-lt-of-le, pow-succ', zero-div, mod-eq-of-lt, one-mul}
+use native.Mathlib.Nat.{le-div-iff-mul-le, lt-of-not-le, le-step, lt-suc-self}
 use native.Mathlib.Numerals.{one-add, add-one}
 use native.Mathlib.Decide.{decLe, decLt, ℕ-discrete as decEq}
 use native.Mathlib.Omega.{arith}
@@ -16,8 +17,8 @@ use lib.Count.{trailingZeros, under}
 use borrow.Author.Tests.{eqb-true, eq-eqb, ne-eqb, lt-ltb, le-ltb, leb-false, lt-leb, le-leb}
 use mathlib.Core.List.{List}
 use lib.ListN.{getD}
-use Rattle.bounded.specs.Search.{any}
-use Rattle.bounded.proofs.Search.{any-at, any-found, same-truth, is-false, is-true, true-not-false, true-or-false, and-now, and-never, and-left, and-right, or-left, or-right, or-now, or-then}
+use Rattle.bounded.proofs.Search.{any-at, any-found, same-truth, is-false, is-true, true-not-false, true-or-false}
+use Rattle.bounded.proofs.Search.{and-now, and-never, and-left, and-right, or-left, or-right, or-now, or-then}
 use Rattle.words.specs.Sets.{gathered, bit, union, intersection, single, lowest, without, exceeds, mask}
 
 -- ---- a bit at a time
@@ -27,7 +28,7 @@ digit x = mod-lt x (lit< tt)
 
 pub bit-first : (x : ℕ) → bit x 0 ≡ eqb (x % 2) 1
 unfolding bit
-bit-first x = ap (λ (y : ℕ). eqb (y % 2) 1) (div-one x)
+bit-first x = rw (div-one x)
 
 pub bit-next : (x t : ℕ) → bit x (suc t) ≡ bit (x / 2) t
 unfolding bit
@@ -35,17 +36,17 @@ bit-next x t = ap (λ (y : ℕ). eqb (y % 2) 1) (ap (λ (k : ℕ). x / 2 ^ k) (s
 
 pub bit-zero : (t : ℕ) → bit 0 t ≡ false
 unfolding bit
-bit-zero t = ap (λ (y : ℕ). eqb (y % 2) 1) (zero-div (2 ^ t))
+bit-zero t = rw (zero-div (2 ^ t))
 
 -- Every number below k is a member of 2 ^ k - 1.
 pub bit-full : (k t : ℕ) → t < k → bit (2 ^ k - 1) t ≡ true
 bit-full zero t h = absurd (omega arith)
 bit-full (suc k) zero h =
     let odd : (2 ^ suc k - 1) % 2 ≡ 1 = omega (arith, pow-pos k) in
-    bit-first (2 ^ suc k - 1) ∙ ap (λ (z : ℕ). eqb z 1) odd
+    bit-first _ ∙ rw odd
 bit-full (suc k) (suc t) h =
     let half : (2 ^ suc k - 1) / 2 ≡ 2 ^ k - 1 = omega (arith, pow-pos k) in
-    bit-next (2 ^ suc k - 1) t ∙ ap (λ (z : ℕ). bit z t) half ∙ bit-full k t (omega arith)
+    bit-next (2 ^ suc k - 1) t ∙ rw half (bit-full k t (omega arith))
 
 -- ---- membership after each operation
 
@@ -74,7 +75,7 @@ bit-union x y t =
     let b = y / 2 ^ t in
     ap (λ (z : ℕ). eqb (z % 2) 1) (or-shr x y t ∙ or-step a b)
     ∙ ap (λ (z : ℕ). eqb z 1) (digits-mod (bitOr (a / 2) (b / 2)) (omega (arith, digit a, digit b)))
-    ∙ or-digit (a % 2) (b % 2) (digit a) (digit b)
+    ∙ or-digit _ _ (digit a) (digit b)
 
 pub bit-intersection : (x y t : ℕ) → bit (intersection x y) t ≡ (bit x t && bit y t)
 unfolding bit intersection
@@ -83,7 +84,7 @@ bit-intersection x y t =
     let b = y / 2 ^ t in
     ap (λ (z : ℕ). eqb (z % 2) 1) (and-shr x y t ∙ and-step a b)
     ∙ ap (λ (z : ℕ). eqb z 1) (digits-mod (bitAnd (a / 2) (b / 2)) (omega (arith, digit a, digit b)))
-    ∙ and-digit (a % 2) (b % 2) (digit a) (digit b)
+    ∙ and-digit _ _ (digit a) (digit b)
 
 pub bit-single : (t u : ℕ) → bit (single t) u ≡ eqb t u
 unfolding single
@@ -91,10 +92,10 @@ bit-single zero zero = bit-first 1
 bit-single zero (suc u) = bit-next 1 u ∙ bit-zero u ∙ sym (eqb·zero-suc u)
 bit-single (suc t) zero =
     let even : 2 ^ suc t % 2 ≡ 0 = omega arith in
-    bit-first (2 ^ suc t) ∙ ap (λ (z : ℕ). eqb z 1) even ∙ sym (eqb·suc-zero t)
+    bit-first _ ∙ rw even (sym (eqb·suc-zero t))
 bit-single (suc t) (suc u) =
     let half : 2 ^ suc t / 2 ≡ 2 ^ t = omega arith in
-    bit-next (2 ^ suc t) u ∙ ap (λ (z : ℕ). bit z u) half ∙ bit-single t u ∙ sym (eqb·suc-suc t u)
+    bit-next _ u ∙ rw half (bit-single t u ∙ sym (eqb·suc-suc t u))
 
 -- ---- a word and its members
 
@@ -102,13 +103,15 @@ bit-single (suc t) (suc u) =
 pub none-above : (x k t : ℕ) → x < 2 ^ k → k ≤ t → bit x t ≡ false
 unfolding bit
 none-above x k t h l =
-    ap (λ (y : ℕ). eqb (y % 2) 1) (div-eq-of-lt (lt-of-lt-of-le h (pow-mono l)))
+    rw (div-eq-of-lt (lt-of-lt-of-le h (pow-mono l)))
 
 true-false : true ≡ false → ⊥
 true-false e = let z : _≡_ {A = ℕ} 0 1 = cc in omega arith
 
 pub member-le : (x t : ℕ) → bit x t ≡ true → 2 ^ t ≤ x
-member-le x t m = elim (decLe (2 ^ t) x) [ yes h ↦ h | no h ↦ absurd (true-false (sym m ∙ none-above x t t (omega arith) (omega arith))) ]
+member-le x t m =
+    elim (decLe (2 ^ t) x)
+    [ yes h ↦ h | no h ↦ absurd (true-false (sym m ∙ none-above x t t (omega arith) (omega arith))) ]
 
 -- Two words below 2 ^ k with the same members are equal.
 pub same-members : (k x y : ℕ) → x < 2 ^ k → y < 2 ^ k → ((t : ℕ) → t < k → bit x t ≡ bit y t) → x ≡ y
@@ -116,7 +119,7 @@ same-members zero x y hx hy f = omega arith
 same-members (suc k) x y hx hy f =
     let high : x / 2 ≡ y / 2 = same-members k (x / 2) (y / 2) (omega arith) (omega arith)
     (λ t h. sym (bit-next x t) ∙ f (suc t) (omega arith) ∙ bit-next y t) in
-    let low : x % 2 ≡ y % 2 = digit-eq (x % 2) (y % 2) (digit x) (digit y) (sym (bit-first x) ∙ f 0 (omega arith) ∙ bit-first y) in
+    let low : x % 2 ≡ y % 2 = digit-eq _ _ (digit x) (digit y) (sym (bit-first x) ∙ f 0 (omega arith) ∙ bit-first y) in
     omega arith
   where
     digit-eq : (p q : ℕ) → p < 2 → q < 2 → eqb p 1 ≡ eqb q 1 → p ≡ q
@@ -136,16 +139,12 @@ no-members k x h f = same-members k x 0 h (pow-pos k) (λ t l. f t l ∙ sym (bi
 pub bit-mod : (k x t : ℕ) → t < k → bit (x % 2 ^ k) t ≡ bit x t
 bit-mod zero x t h = absurd (omega arith)
 bit-mod (suc k) x zero h =
-    bit-first (x % 2 ^ suc k)
-    ∙ ap (λ (j : ℕ). eqb (x % 2 ^ j % 2) 1) (sym (add-one k))
-    ∙ ap (λ (z : ℕ). eqb z 1) (mod-mod-pow x k 1)
-    ∙ sym (bit-first x)
+    bit-first _
+    ∙ rw (← add-one k, mod-mod-pow x k 1) (sym (bit-first x))
 bit-mod (suc k) x (suc t) h =
-    bit-next (x % 2 ^ suc k) t
-    ∙ ap (λ (j : ℕ). bit (x % 2 ^ j / 2) t) (sym (add-one k))
-    ∙ ap (λ (z : ℕ). bit z t) (field x k 1)
-    ∙ bit-mod k (x / 2) t (omega arith)
-    ∙ sym (bit-next x t)
+    bit-next _ t
+    ∙ rw (← add-one k, field x k 1) (bit-mod k (x / 2) t (omega arith)
+    ∙ sym (bit-next x t))
 
 below-pow : (x : ℕ) → x < 2 ^ x
 below-pow zero = omega arith
@@ -161,7 +160,7 @@ all-below (suc k) x f =
 -- ---- two words in one: u in the places below p, and v from p on
 
 pub bit-low : (v p t : ℕ) {u : ℕ} → u < 2 ^ p → t < p → bit (v * 2 ^ p + u) t ≡ bit u t
-bit-low v p t {u} h l = sym (bit-mod p (v * 2 ^ p + u) t l) ∙ ap (λ (z : ℕ). bit z t) (low v p h)
+bit-low v p t {u} h l = sym (bit-mod p _ t l) ∙ rw (low v p h)
 
 pub bit-high : (v p t : ℕ) {u : ℕ} → u < 2 ^ p → p ≤ t → bit (v * 2 ^ p + u) t ≡ bit v (t - p)
 unfolding bit
@@ -187,7 +186,7 @@ bit-one t = bit-single 0 t
 pub mask-lt : (n : ℕ) (test : ℕ → Bool) → mask n test < 2 ^ n
 unfolding mask
 mask-lt zero test = omega arith
-mask-lt (suc n) test = more (test n) (mask n test) (mask-lt n test)
+mask-lt (suc n) test = more (test n) _ (mask-lt n _)
   where
     more : (b : Bool) (u : ℕ) → u < 2 ^ n → u + cond b (2 ^ n) 0 < 2 ^ suc n
     more true u h = omega arith
@@ -198,13 +197,12 @@ unfolding mask
 bit-mask zero test t = bit-zero t ∙ sym (and-never (ltb t 0) (test t) (le-ltb t 0 (omega arith)))
 bit-mask (suc n) test t =
     let top : ℕ = cond (test n) 1 0 in
-    ap (λ (z : ℕ). bit z t) (above (test n) (mask n test))
-    ∙ elim (decLt t n) [
+    rw (above (test n) (mask n test)) (elim (decLt t n) [
       | yes l ↦
           bit-low top n t (mask-lt n test) l ∙ bit-mask n test t
           ∙ ap (λ (p : Bool). p && test t) (lt-ltb t n l ∙ sym (lt-ltb t (suc n) (omega arith)))
       | no l ↦ bit-high top n t (mask-lt n test) (omega arith) ∙ bit-cond (test n) 1 (t - n) ∙ last (omega arith)
-    ]
+    ])
   where
     above : (b : Bool) (u : ℕ) → u + cond b (2 ^ n) 0 ≡ cond b 1 0 * 2 ^ n + u
     above true u = omega arith
@@ -214,11 +212,13 @@ bit-mask (suc n) test t =
     last l =
         elim (decEq t n) [
           | yes e ↦
-              ap (λ (p : Bool). test n && p) (bit-one (t - n) ∙ eq-eqb 0 (t - n) (omega arith)) ∙ and-true (test n) ∙ ap test (sym e)
-              ∙ sym (and-now (ltb t (suc n)) (test t) (lt-ltb t (suc n) (omega arith)))
+              ap (λ (p : Bool). test n && p) (bit-one (t - n) ∙ eq-eqb 0 (t - n) (omega arith)) ∙ and-true (test n)
+              ∙ ap test (sym e)
+              ∙ sym (and-now _ _ (lt-ltb t _ (omega arith)))
           | no e ↦
-              ap (λ (p : Bool). test n && p) (bit-one (t - n) ∙ ne-eqb 0 (t - n) (λ z. e (omega arith))) ∙ and-false (test n)
-              ∙ sym (and-never (ltb t (suc n)) (test t) (le-ltb t (suc n) (omega arith)))
+              ap (λ (p : Bool). test n && p) (bit-one (t - n) ∙ ne-eqb 0 (t - n) (λ z. e (omega arith)))
+              ∙ and-false (test n)
+              ∙ sym (and-never _ _ (le-ltb t _ (omega arith)))
         ]
 
 pub mask-same : (n : ℕ) (f g : ℕ → Bool) → ((t : ℕ) → t < n → f t ≡ g t) → mask n f ≡ mask n g
@@ -229,27 +229,28 @@ mask-same (suc n) f g h = rw (mask-same n f g (λ t l. h t (le-step l)), h n (lt
 -- `exceeds n x` is false exactly where all members of x are below n.
 pub within-members : (n x : ℕ) → exceeds n x ≡ false → (t : ℕ) → n ≤ t → bit x t ≡ false
 unfolding exceeds
-within-members n x e t l = none-above x n t (leb-false (2 ^ n) x e) l
+within-members n x e t l = none-above x n t (leb-false _ x e) l
 
 pub members-within : (n x : ℕ) → ((t : ℕ) → n ≤ t → bit x t ≡ false) → exceeds n x ≡ false
 unfolding exceeds
-members-within n x f = lt-leb (2 ^ n) x (all-below n x f)
+members-within n x f = lt-leb _ x (all-below n x f)
 
 pub exceeds-union : (n x y : ℕ) → exceeds n (union x y) ≡ (exceeds n x || exceeds n y)
 exceeds-union n x y =
-    same-truth (exceeds n (union x y)) (exceeds n x || exceeds n y)
+    same-truth _ _
     (λ e.
     is-true _ (λ f.
-    true-not-false e (members-within n (union x y) (λ t l.
+    true-not-false e (members-within n _ (λ t l.
     bit-union x y t
-    ∙ or-then (bit x t) (bit y t) (within-members n x (or-left (exceeds n x) (exceeds n y) f) t l)
-    ∙ within-members n y (or-right (exceeds n x) (exceeds n y) f) t l))))
+    ∙ or-then _ _ (within-members n x (or-left _ _ f) t l)
+    ∙ within-members n y (or-right (exceeds n x) _ f) t l))))
     (λ e.
     is-true _ (λ f.
-    let none : (t : ℕ) → n ≤ t → (bit x t || bit y t) ≡ false = λ t l. sym (bit-union x y t) ∙ within-members n (union x y) f t l in
+    let none : (t : ℕ) → n ≤ t → (bit x t || bit y t) ≡ false = λ t l. sym (bit-union x y t)
+    ∙ within-members n _ f t l in
     true-not-false e
-    (or-then (exceeds n x) (exceeds n y) (members-within n x (λ t l. or-left (bit x t) (bit y t) (none t l)))
-    ∙ members-within n y (λ t l. or-right (bit x t) (bit y t) (none t l)))))
+    (or-then _ _ (members-within n x (λ t l. or-left _ _ (none t l)))
+    ∙ members-within n y (λ t l. or-right (bit x t) _ (none t l)))))
 
 -- What the code of `exceeds` tests: after n - 1 places are shifted out, at least 2 is left.
 pub exceeds-shifted : (n x : ℕ) → 1 ≤ n → leb 2 (x / 2 ^ (n - 1)) ≡ exceeds n x
@@ -258,13 +259,14 @@ exceeds-shifted zero x h = absurd (omega arith)
 exceeds-shifted (suc n) x h =
     let e : suc n - 1 ≡ n = omega arith in
     let p : 2 * 2 ^ n ≡ 2 ^ suc n = omega arith in
-    ap (λ (k : ℕ). leb 2 (x / 2 ^ k)) e ∙ shifted (le-div-iff-mul-le {k = 2 ^ n} {x = 2} {y = x} (pow-pos n)) p
+    rw e (shifted (le-div-iff-mul-le {k = 2 ^ n} {x = 2} {y = x} (pow-pos n)) p)
   where
     shifted : (2 ≤ x / 2 ^ n) ↔ (2 * 2 ^ n ≤ x) → 2 * 2 ^ n ≡ 2 ^ suc n → leb 2 (x / 2 ^ n) ≡ leb (2 ^ suc n) x
     shifted d p =
         elim (decLe 2 (x / 2 ^ n)) [
-          | yes l ↦ le-leb 2 (x / 2 ^ n) l ∙ sym (le-leb (2 ^ suc n) x (subst (λ (q : ℕ). q ≤ x) p (d .0 l)))
-          | no l ↦ lt-leb 2 (x / 2 ^ n) (omega arith) ∙ sym (lt-leb (2 ^ suc n) x (lt-of-not-le (λ g. l (d .1 (subst (λ (q : ℕ). q ≤ x) (sym p) g)))))
+          | yes l ↦ le-leb 2 _ l ∙ sym (le-leb _ x (subst (λ (q : ℕ). q ≤ x) p (d .0 l)))
+          | no l ↦ lt-leb 2 (x / 2 ^ n) (omega arith)
+              ∙ sym (lt-leb (2 ^ suc n) x (lt-of-not-le (λ g. l (d .1 (subst (λ (q : ℕ). q ≤ x) (sym p) g)))))
         ]
 
 -- ---- taking a member away, and the lowest member
@@ -272,25 +274,25 @@ exceeds-shifted (suc n) x h =
 pub bit-without : (x t u : ℕ) → bit x t ≡ true → bit (without x t) u ≡ (bit x u && not (eqb t u))
 unfolding without
 bit-without x zero zero m =
-    let odd : x % 2 ≡ 1 = eqb-true (x % 2) 1 (sym (bit-first x) ∙ m) in
+    let odd : x % 2 ≡ 1 = eqb-true _ 1 (sym (bit-first x) ∙ m) in
     let even : (x - 1) % 2 ≡ 0 = omega arith in
-    bit-first (x - 1) ∙ ap (λ (z : ℕ). eqb z 1) even ∙ sym (and-false (bit x 0))
+    bit-first _ ∙ rw even (sym (and-false (bit x 0)))
 bit-without x zero (suc u) m =
-    let odd : x % 2 ≡ 1 = eqb-true (x % 2) 1 (sym (bit-first x) ∙ m) in
+    let odd : x % 2 ≡ 1 = eqb-true _ 1 (sym (bit-first x) ∙ m) in
     let half : (x - 1) / 2 ≡ x / 2 = omega arith in
-    bit-next (x - 1) u ∙ ap (λ (z : ℕ). bit z u) half ∙ sym (bit-next x u) ∙ sym (and-true (bit x (suc u)))
-    ∙ ap (λ (b : Bool). bit x (suc u) && not b) (sym (eqb·zero-suc u))
+    bit-next _ u ∙ rw half (sym (bit-next x u) ∙ sym (and-true _)
+    ∙ ap (λ (b : Bool). bit x (suc u) && not b) (sym (eqb·zero-suc u)))
 bit-without x (suc t) zero m =
-    let l = member-le x (suc t) m in
+    let l = member-le x _ m in
     let same : (x - 2 ^ suc t) % 2 ≡ x % 2 = omega arith in
-    bit-first (x - 2 ^ suc t) ∙ ap (λ (z : ℕ). eqb z 1) same ∙ sym (bit-first x) ∙ sym (and-true (bit x 0))
-    ∙ ap (λ (b : Bool). bit x 0 && not b) (sym (eqb·suc-zero t))
+    bit-first _ ∙ rw same (sym (bit-first x) ∙ sym (and-true _)
+    ∙ ap (λ (b : Bool). bit x 0 && not b) (sym (eqb·suc-zero t)))
 bit-without x (suc t) (suc u) m =
-    let l = member-le x (suc t) m in
+    let l = member-le x _ m in
     let half : (x - 2 ^ suc t) / 2 ≡ x / 2 - 2 ^ t = omega arith in
-    bit-next (x - 2 ^ suc t) u ∙ ap (λ (z : ℕ). bit z u) half ∙ bit-without (x / 2) t u (sym (bit-next x t) ∙ m)
+    bit-next _ u ∙ rw half (bit-without _ t u (sym (bit-next x t) ∙ m)
     ∙ ap (λ (b : Bool). b && not (eqb t u)) (sym (bit-next x u))
-    ∙ ap (λ (b : Bool). bit x (suc u) && not b) (sym (eqb·suc-suc t u))
+    ∙ ap (λ (b : Bool). bit x (suc u) && not b) (sym (eqb·suc-suc t u)))
 
 -- t is the lowest member of x
 pub record Lowest (x t : ℕ) : Type 0 where
@@ -300,15 +302,17 @@ pub record Lowest (x t : ℕ) : Type 0 where
 trailing : (k x : ℕ) → x < 2 ^ k → (x ≡ 0 → ⊥) → Lowest x (trailingZeros k x) × (trailingZeros k x < k)
 unfolding trailingZeros
 trailing zero x h n = absurd (n (omega arith))
-trailing (suc k) x h n = go (trailing k (x / 2)) (x % 2) refl
+trailing (suc k) x h n = go (trailing k _) _ refl
   where
     go : (x / 2 < 2 ^ k → (x / 2 ≡ 0 → ⊥) → Lowest (x / 2) (trailingZeros k (x / 2)) × (trailingZeros k (x / 2) < k))
-        → (d : ℕ) → x % 2 ≡ d → Lowest x (under d (trailingZeros k (x / 2))) × (under d (trailingZeros k (x / 2)) < suc k)
+        → (d : ℕ) → x % 2 ≡ d
+        → Lowest x (under d (trailingZeros k (x / 2))) × (under d (trailingZeros k (x / 2)) < suc k)
     go rest zero e =
         let r = rest (omega arith) (λ z. n (omega arith)) in (
           record {
             member = bit-next x _ ∙ r .0 .member;
-            least = λ u. elim u [ zero ↦ λ l. bit-first x ∙ ap (λ (d : ℕ). eqb d 1) e | suc v ↦ λ l. bit-next x v ∙ r .0 .least v (omega arith) ];
+            least = λ u. elim u
+                [ zero ↦ λ l. bit-first x ∙ rw e | suc v ↦ λ l. bit-next x v ∙ r .0 .least v (omega arith) ];
           },
           omega arith,
         )
@@ -320,18 +324,20 @@ trailing (suc k) x h n = go (trailing k (x / 2)) (x % 2) refl
 -- Of a word with a member, `lowest` is the lowest.
 pub lowest-member : (x : ℕ) → x < 2 ^ 64 → (x ≡ 0 → ⊥) → Lowest x (lowest x)
 unfolding lowest
-lowest-member x h n = trailing 64 x h n .0
+lowest-member x h n = trailing _ x h n .0
 
 pub lowest-below : (x : ℕ) → x < 2 ^ 64 → (x ≡ 0 → ⊥) → lowest x < 64
 unfolding lowest
-lowest-below x h n = trailing 64 x h n .1
+lowest-below x h n = trailing _ x h n .1
 
 -- The lowest member is below m where all members are.
 pub lowest-lt : (m x : ℕ) → m ≤ 64 → x < 2 ^ m → (x ≡ 0 → ⊥) → lowest x < m
 lowest-lt m x l h n =
     elim (decLt (lowest x) m) [
       | yes k ↦ k
-      | no k ↦ absurd (true-not-false (lowest-member x (lt-of-lt-of-le h (pow-mono l)) n .member) (none-above x m (lowest x) h (omega arith)))
+      | no k ↦ absurd
+          (true-not-false (lowest-member x (lt-of-lt-of-le h (pow-mono l)) n .member)
+          (none-above x m _ h (omega arith)))
     ]
 
 -- ---- bounds
@@ -360,7 +366,7 @@ without-less x t n = omega (arith, pow-pos t)
 
 pub shifted-one : (t : ℕ) → t < 64 → 1 * 2 ^ t % 2 ^ 64 ≡ single t
 unfolding single
-shifted-one t h = ap (λ (y : ℕ). y % 2 ^ 64) (one-mul (2 ^ t)) ∙ mod-eq-of-lt (pow-lt h)
+shifted-one t h = rw (one-mul (2 ^ t)) (mod-eq-of-lt (pow-lt h))
 
 -- ---- gathering
 
@@ -369,79 +375,83 @@ pub gathered-empty : (n : ℕ) (table : List ℕ) (c : ℕ) → gathered n 0 tab
 unfolding gathered
 gathered-empty n table c =
     is-false _ (λ e.
-    let w = any-found n (λ u. bit 0 u && bit (getD table u 0) c) e in
-    true-not-false (and-left (bit 0 (w .0)) (bit (getD table (w .0) 0) c) (w .2)) (bit-zero (w .0)))
+    let w = any-found n _ e in
+    true-not-false (and-left _ _ (w .2)) (bit-zero _))
 
 -- Where all members of x are below n, only the first n words count.
 pub gathered-within : (n x : ℕ) (table : List ℕ) → n ≤ 64 → ((t : ℕ) → n ≤ t → bit x t ≡ false) → (c : ℕ)
     → gathered 64 x table c ≡ gathered n x table c
 unfolding gathered
 gathered-within n x table l f c =
-    let here : ℕ → Bool = λ u. bit x u && bit (getD table u 0) c in
-    same-truth (any 64 here) (any n here)
+    same-truth _ _
     (λ e.
-    let w = any-found 64 here e in
+    let w = any-found _ _ e in
     elim (decLt (w .0) n) [
-      | yes k ↦ any-at here n (w .0) k (w .2)
-      | no k ↦ absurd (true-not-false (and-left (bit x (w .0)) (bit (getD table (w .0) 0) c) (w .2)) (f (w .0) (omega arith)))
+      | yes k ↦ any-at _ n _ k (w .2)
+      | no k ↦ absurd (true-not-false (and-left _ _ (w .2)) (f (w .0) (omega arith)))
     ])
-    (λ e. let w = any-found n here e in any-at here 64 (w .0) (lt-of-lt-of-le (w .1) l) (w .2))
+    (λ e. let w = any-found n _ e in any-at _ _ _ (lt-of-lt-of-le (w .1) l) (w .2))
 
 -- The word at a member t of x, and what x without t gathers, is what x gathers.
 pub gathered-without : (n x t : ℕ) (table : List ℕ) → t < n → bit x t ≡ true → (c : ℕ)
     → gathered n x table c ≡ (bit (getD table t 0) c || gathered n (without x t) table c)
 unfolding gathered
 gathered-without n x t table h m c =
-    let here : ℕ → Bool = λ u. bit x u && bit (getD table u 0) c in
     let rest : ℕ → Bool = λ u. bit (without x t) u && bit (getD table u 0) c in
-    same-truth (any n here) (bit (getD table t 0) c || any n rest)
+    same-truth _ _
     (λ e.
-    let w = any-found n here e in
+    let w = any-found n _ e in
     elim (decEq t (w .0)) [
-      | yes q ↦ or-now _ (any n rest) (subst (λ (u : ℕ). bit (getD table u 0) c ≡ true) (sym q) (and-right (bit x (w .0)) (bit (getD table (w .0) 0) c) (w .2)))
+      | yes q ↦ or-now _ _
+          (subst (λ (u : ℕ). bit (getD table u 0) c ≡ true) (sym q) (and-right (bit x (w .0)) _ (w .2)))
       | no q ↦
-          or-last (bit (getD table t 0) c) (any n rest) (any-at rest n (w .0) (w .1)
+          or-last (bit (getD table t 0) c) _ (any-at rest n _ (w .1)
           (and-now (bit (without x t) (w .0)) (bit (getD table (w .0) 0) c)
-          (bit-without x t (w .0) m ∙ and-now (bit x (w .0)) (not (eqb t (w .0))) (and-left (bit x (w .0)) (bit (getD table (w .0) 0) c) (w .2)) ∙ ap not (ne-eqb t (w .0) q))
-          ∙ and-right (bit x (w .0)) (bit (getD table (w .0) 0) c) (w .2)))
+          (bit-without x t (w .0) m ∙ and-now (bit x (w .0)) _ (and-left _ (bit (getD table (w .0) 0) c) (w .2))
+          ∙ ap not (ne-eqb t _ q))
+          ∙ and-right (bit x (w .0)) _ (w .2)))
     ])
     (λ e.
     ⊎-elim
-    (λ p. any-at here n t h (and-now (bit x t) (bit (getD table t 0) c) m ∙ p))
+    (λ p. any-at _ n t h (and-now _ _ m ∙ p))
     (λ p.
-    let w = any-found n rest (sym (or-then (bit (getD table t 0) c) (any n rest) p) ∙ e) in
-    let kept = and-left (bit (without x t) (w .0)) (bit (getD table (w .0) 0) c) (w .2) in
-    any-at here n (w .0) (w .1)
-    (and-now (bit x (w .0)) (bit (getD table (w .0) 0) c) (and-left (bit x (w .0)) (not (eqb t (w .0))) (sym (bit-without x t (w .0) m) ∙ kept))
-    ∙ and-right (bit (without x t) (w .0)) (bit (getD table (w .0) 0) c) (w .2)))
-    (true-or-false (bit (getD table t 0) c)))
+    let w = any-found n _ (sym (or-then _ _ p) ∙ e) in
+    let kept = and-left _ _ (w .2) in
+    any-at _ n _ (w .1)
+    (and-now (bit x (w .0)) (bit (getD table (w .0) 0) c)
+    (and-left (bit x (w .0)) (not (eqb t (w .0))) (sym (bit-without x t (w .0) m) ∙ kept))
+    ∙ and-right (bit (without x t) (w .0)) _ (w .2)))
+    (true-or-false _))
   where
     or-last : (p q : Bool) → q ≡ true → (p || q) ≡ true
-    or-last p q e = ap (λ (x : Bool). p || x) e ∙ or-true p
+    or-last p q e = rw e (or-true p)
 
 -- What a step of `gather` finds and leaves comes to the same as before it.
 pub gathered-lowest : (found rest : ℕ) (table : List ℕ) → rest < 2 ^ 64 → (rest ≡ 0 → ⊥) → (c : ℕ)
-    → (bit (union found (getD table (lowest rest) 0)) c || gathered 64 (without rest (lowest rest)) table c) ≡ (bit found c || gathered 64 rest table c)
+    → (bit (union found (getD table (lowest rest) 0)) c || gathered 64 (without rest (lowest rest)) table c)
+    ≡ (bit found c || gathered 64 rest table c)
 gathered-lowest found rest table h z c =
     let t = lowest rest in
     let word = getD table t 0 in
-    ap (λ (p : Bool). p || gathered 64 (without rest t) table c) (bit-union found word c)
-    ∙ or-assoc (bit found c) (bit word c) (gathered 64 (without rest t) table c)
-    ∙ ap (λ (p : Bool). bit found c || p) (sym (gathered-without 64 rest t table (lowest-below rest h z) (lowest-member rest h z .member) c))
+    rw (bit-union _ _ c) (or-assoc (bit found c) (bit word c) (gathered 64 (without rest t) table c)
+    ∙ ap (λ (p : Bool). bit found c || p)
+    (sym (gathered-without _ _ t _ (lowest-below _ h z) (lowest-member _ h z .member) c)))
 
 -- Where nothing is left, what is found is all.
-pub gathered-end : (found rest : ℕ) (table : List ℕ) → rest ≡ 0 → (c : ℕ) → (bit found c || gathered 64 rest table c) ≡ bit found c
+pub gathered-end : (found rest : ℕ) (table : List ℕ) → rest ≡ 0 → (c : ℕ)
+    → (bit found c || gathered 64 rest table c) ≡ bit found c
 gathered-end found rest table e c =
-    ap (λ (r : ℕ). bit found c || gathered 64 r table c) e ∙ ap (λ (p : Bool). bit found c || p) (gathered-empty 64 table c) ∙ or-false (bit found c)
+    rw (e, gathered-empty _ _ c) (or-false _)
 
 -- ---- what the code of `drop_lowest` computes
 
 clear : (k x : ℕ) → x < 2 ^ k → (x ≡ 0 → ⊥) → bitAnd x (x - 1) ≡ x - 2 ^ trailingZeros k x
 unfolding trailingZeros
 clear zero x h n = absurd (n (omega arith))
-clear (suc k) x h n = go (clear k (x / 2)) (x % 2) refl
+clear (suc k) x h n = go (clear k _) _ refl
   where
-    doubled : (p : ℕ) → min (x % 2) ((x - 1) % 2) ≡ 0 → x % 2 ≡ 0 → (x / 2 - p) * 2 + min (x % 2) ((x - 1) % 2) ≡ x - 2 * p
+    doubled : (p : ℕ) → min (x % 2) ((x - 1) % 2) ≡ 0 → x % 2 ≡ 0
+        → (x / 2 - p) * 2 + min (x % 2) ((x - 1) % 2) ≡ x - 2 * p
     doubled p l e = omega arith
 
     go : (x / 2 < 2 ^ k → (x / 2 ≡ 0 → ⊥) → bitAnd (x / 2) (x / 2 - 1) ≡ x / 2 - 2 ^ trailingZeros k (x / 2))
@@ -451,27 +461,29 @@ clear (suc k) x h n = go (clear k (x / 2)) (x % 2) refl
         let half : (x - 1) / 2 ≡ x / 2 - 1 = omega arith in
         let low : min (x % 2) ((x - 1) % 2) ≡ 0 = omega arith in
         and-step x (x - 1) ∙ ap (λ (y : ℕ). bitAnd (x / 2) y * 2 + min (x % 2) ((x - 1) % 2)) half
-        ∙ ap (λ (y : ℕ). y * 2 + min (x % 2) ((x - 1) % 2)) less ∙ doubled (2 ^ trailingZeros k (x / 2)) low e ∙ ap (λ (q : ℕ). x - q) (sym (pow-succ' 2 (trailingZeros k (x / 2))))
+        ∙ ap (λ (y : ℕ). y * 2 + min (x % 2) ((x - 1) % 2)) less ∙ doubled _ low e
+        ∙ ap (λ (q : ℕ). x - q) (sym (pow-succ' 2 (trailingZeros k _)))
     go rest (suc d) e =
         let half : (x - 1) / 2 ≡ x / 2 = omega (arith, digit x) in
         let low : min (x % 2) ((x - 1) % 2) ≡ 0 = omega (arith, digit x) in
-        and-step x (x - 1) ∙ ap (λ (y : ℕ). bitAnd (x / 2) y * 2 + min (x % 2) ((x - 1) % 2)) half
-        ∙ ap (λ (y : ℕ). y * 2 + min (x % 2) ((x - 1) % 2)) (and-self (x / 2)) ∙ omega (arith, digit x)
+        and-step x (x - 1) ∙ rw (half, and-self (x / 2)) (omega (arith, digit x))
 
 pub clear-lowest : (x : ℕ) → x < 2 ^ 64 → (x ≡ 0 → ⊥) → bitAnd x (x - 1) ≡ without x (lowest x)
 unfolding without lowest
-clear-lowest x h n = clear 64 x h n
+clear-lowest x h n = clear _ x h n
 
 -- Nothing is left of x without its lowest member exactly if it has no other.
 pub single-lowest : (x : ℕ) → x < 2 ^ 64 → (x ≡ 0 → ⊥) → eqb (without x (lowest x)) 0 ≡ eqb x (single (lowest x))
 unfolding without single
 single-lowest x h n =
-    let le = member-le x (lowest x) (lowest-member x h n .member) in
+    let le = member-le x _ (lowest-member x h n .member) in
     let t = lowest x in
-    same-truth (eqb (x - 2 ^ t) 0) (eqb x (2 ^ t))
+    same-truth _ _
     (λ e. let z = eqb-true (x - 2 ^ t) 0 e in eq-eqb x (2 ^ t) (omega arith))
     (λ e. let z = eqb-true x (2 ^ t) e in eq-eqb (x - 2 ^ t) 0 (omega arith))
 
 -- The empty set is no set of one.
 pub none-single : (x t : ℕ) → x ≡ 0 → false ≡ eqb x (single t)
-none-single x t e = sym (ne-eqb x (single t) (λ q. true-not-false (bit-single t t ∙ eq-eqb t t refl) (ap (λ (y : ℕ). bit y t) (sym q ∙ e) ∙ bit-zero t)))
+none-single x t e =
+    sym (ne-eqb x _
+    (λ q. true-not-false (bit-single t t ∙ eq-eqb t t refl) (ap (λ (y : ℕ). bit y t) (sym q ∙ e) ∙ bit-zero t)))

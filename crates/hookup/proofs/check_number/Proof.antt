@@ -1,9 +1,8 @@
 use mathlib.Core.Path.{sym, ap, _∙_}
 use native.Mathlib.Omega.{arith}
 use Rattle.restrictive.specs.declared.answer.Verdict.{Verdict}
-use Rattle.restrictive.specs.Answers.{named, means}
+use Rattle.restrictive.specs.Answers.{violation-of, verdict-of}
 use Rattle.hookup.specs.Numbers.{check-number}
-use Rattle.hookup.proofs.Numbered.{rejection-most}
 use borrow.Author.Needs.{needs}
 use Rattle.hookup.proofs.check_number.Statement.{statement}
 use Rattle.hookup.proofs.check_number.Tie as tie
@@ -21,43 +20,37 @@ enum-known-v-2 : tie.Need-enum-known-v-2
 enum-known-v-2 c = search needs
 
 cast-result : tie.Need-cast-result
-unfolding means named
+unfolding verdict-of violation-of
 cast-result c =
     let v = c .before .before .v2 .given in
-    omega (arith, c .before .before .before .before .pre (named (v .0 .0)) (ap means (v .1)))
+    omega (arith, c .before .before .before .before .pre (violation-of (v .0 .0)) (ap verdict-of (v .1)))
 
 add-result : tie.Need-add-result
-unfolding means named
+unfolding verdict-of violation-of
 add-result c =
     let v = c .before .before .v2 .given in
-    omega (arith, c .before .before .before .before .pre (named (v .0 .0)) (ap means (v .1)))
+    omega (arith, c .before .before .before .before .pre (violation-of (v .0 .0)) (ap verdict-of (v .1)))
 
 returns : tie.Need-returns
-unfolding check-number means
-returns c = (ap (λ (v : Verdict). check-number (means v)) (sym (c .enum-told .given .1)), omega arith)
+unfolding check-number verdict-of
+returns c = (ap (λ (v : Verdict). check-number (verdict-of v)) (sym (c .enum-told .given .1)), omega arith)
 
 returns-2 : tie.Need-returns-2
-unfolding check-number means
+unfolding check-number verdict-of
 returns-2 c =
     let v = c .before .before .v .given in
-    (c .number .ensures ∙ ap (λ (v : Verdict). check-number (means v)) (sym (v .1)), omega (arith, c .number .ensures, rejection-most (v .0 .0)))
+    (c .number .ensures .0 ∙ ap (λ (v : Verdict). check-number (verdict-of v)) (sym (v .1)), omega arith)
 
 returns-3 : tie.Need-returns-3
-unfolding check-number means named
+unfolding check-number verdict-of violation-of
 returns-3 c =
-    let v = c .before .before .v2 .given in
-    (ap (λ (v : Verdict). check-number (means v)) (sym (v .1)), omega (arith, c .before .before .before .before .pre (named (v .0 .0)) (ap means (v .1))))
+    let v = c .before .before .v2 .given in (
+      ap (λ (v : Verdict). check-number (verdict-of v)) (sym (v .1)),
+      omega
+          (arith, c .before .before .before .before .pre (violation-of (v .0 .0)) (ap verdict-of (v .1))),
+    )
 
 pub check-number-spec : {M : Type 1} → statement M
 check-number-spec =
     tie.close
-    (tie.spec
-    enum-told
-    enum-known-v
-    number-requires
-    enum-known-v-2
-    cast-result
-    add-result
-    returns
-    returns-2
-    returns-3)
+    (tie.spec enum-told enum-known-v number-requires enum-known-v-2 cast-result add-result returns returns-2 returns-3)

@@ -35,7 +35,9 @@ module _ (c : tie.After-known-told Inv-loop μ-loop) where
   entry = c .before .before .before .before .before .before .before .before .before .before .args .bytes .now
 
   brought : Brought (Read more) (drop n bytes) (drop n after)
-  brought = subst (λ (r : Input). Brought r (drop n bytes) (drop n after)) (c .before .more .given .1) (c .before .before .before .before .before .read-some .ensures .0)
+  brought =
+      subst (λ (r : Input). Brought r (drop n bytes) (drop n after)) (c .before .more .given .1)
+      (c .before .before .before .before .before .read-some .ensures .0)
 
   within : n + more ≤ length entry
   within = omega (arith, brought .0, length-drop n bytes)
@@ -43,7 +45,8 @@ module _ (c : tie.After-known-told Inv-loop μ-loop) where
   behind : drop (n + more) after ≡ drop (n + more) entry
   behind =
       sym (drop-drop more n after) ∙ brought .1
-      ∙ ap (drop more) (c .before .before .before .before .before .before .before .before .loop .inv .2) ∙ drop-drop more n entry
+      ∙ ap (drop more) (c .before .before .before .before .before .before .before .before .loop .inv .2)
+      ∙ drop-drop more n entry
 
 loop-holds : tie.Need-loop-holds Inv-loop μ-loop
 loop-holds c = search needs
@@ -88,21 +91,5 @@ returns-3 : tie.Need-returns-3 Inv-loop μ-loop
 returns-3 c = (c .before .loop .inv .0, c .before .loop .inv .2)
 
 pub read-all-spec : {M : Type 1} → statement M
-read-all-spec =
-    tie.close
-    (tie.spec
-    Inv-loop
-    μ-loop
-    loop-holds
-    read-some-requires
-    enum-known-more
-    enum-told
-    same-length
-    returns
-    same-length-2
-    returns-2
-    add-n
-    loop-less
-    loop-again
-    same-length-3
-    returns-3)
+read-all-spec = tie.close (tie.spec Inv-loop μ-loop loop-holds read-some-requires enum-known-more enum-told same-length
+    returns same-length-2 returns-2 add-n loop-less loop-again same-length-3 returns-3)

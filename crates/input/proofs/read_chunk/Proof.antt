@@ -10,7 +10,8 @@ slice-relend-prefix-read : tie.Need-slice-relend-prefix-read
 slice-relend-prefix-read c = search needs
 
 slice-aggregate-read : tie.Need-slice-aggregate-read
-slice-aggregate-read c = let start = c .before .before .args in sym (length-take-le (start .most) (start .chunk .now) (omega arith))
+slice-aggregate-read c = let start = c .before .before .args in
+    sym (length-take-le (start .most) (start .chunk .now) (omega arith))
 
 read-requires : tie.Need-read-requires
 read-requires c κs = search needs
@@ -29,7 +30,8 @@ slice-aggregate-count c =
     let start = c .before .before .before .before .before .before .before .args in
     let read = c .before .before .before .before .read in
     let same : length (read .last .1 .0) ≡ length (take (start .most) (start .chunk .now)) = read .kept .1 .0 in
-    simp (length-take, length-append, length-drop) (omega (arith, same, length-take-le (start .most) (start .chunk .now) (omega arith)))
+    simp (length-take, length-append, length-drop)
+    (omega (arith, same, length-take-le (start .most) (start .chunk .now) (omega arith)))
 
 count-requires : tie.Need-count-requires
 count-requires c κs = search needs
@@ -43,16 +45,5 @@ returns-2 c =
     omega (arith, c .count .ensures .0 .0, most)
 
 pub read-chunk-spec : {M : Type 1} → statement M
-read-chunk-spec =
-    tie.close
-    (tie.spec
-    slice-relend-prefix-read
-    slice-aggregate-read
-    read-requires
-    same-length
-    returns
-    slice-reshare-prefix-count
-    slice-aggregate-count
-    count-requires
-    same-length-2
-    returns-2)
+read-chunk-spec = tie.close (tie.spec slice-relend-prefix-read slice-aggregate-read read-requires same-length returns
+    slice-reshare-prefix-count slice-aggregate-count count-requires same-length-2 returns-2)

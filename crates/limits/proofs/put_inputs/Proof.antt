@@ -69,24 +69,5 @@ returns c = search needs
 pub put-inputs-spec : {M : Type 1} → statement M
 put-inputs-spec =
     tie.close
-    (tie.spec
-    Inv-loop
-    μ-loop
-    put-part-requires
-    mul-rows
-    add-rows
-    loop-holds
-    add-out
-    cast-out
-    mul-out
-    add-out-2
-    slice-write-out
-    cast-out-2
-    mul-out-2
-    add-out-3
-    slice-write-out-2
-    add-i
-    loop-less
-    loop-again
-    same-length
-    returns)
+    (tie.spec Inv-loop μ-loop put-part-requires mul-rows add-rows loop-holds add-out cast-out mul-out add-out-2
+    slice-write-out cast-out-2 mul-out-2 add-out-3 slice-write-out-2 add-i loop-less loop-again same-length returns)

@@ -28,11 +28,4 @@ returns c = search needs
 pub put-part-spec : {M : Type 1} → statement M
 put-part-spec =
     tie.close
-    (tie.spec
-    sub-body
-    put32-requires
-    put16-requires
-    slice-write-out
-    slice-write-out-2
-    same-length
-    returns)
+    (tie.spec sub-body put32-requires put16-requires slice-write-out slice-write-out-2 same-length returns)

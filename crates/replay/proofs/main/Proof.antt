@@ -22,10 +22,14 @@ enum-known-n : tie.Need-enum-known-n
 enum-known-n c = search needs
 
 array-share-prefix-buffer : tie.Need-array-share-prefix-buffer
-array-share-prefix-buffer c = within (c .before .before .before .before) (c .before .n .given .0 .0) (c .before .n .given .1)
+array-share-prefix-buffer c =
+    within (c .before .before .before .before) (c .before .n .given .0 .0) (c .before .n .given .1)
 
 slice-aggregate-run : tie.Need-slice-aggregate-run
-slice-aggregate-run c = sym (length-take-le _ (c .before .before .before .before .before .read-all .last .0) (within (c .before .before .before .before .before) (c .before .before .n .given .0 .0) (c .before .before .n .given .1)))
+slice-aggregate-run c =
+    sym (length-take-le _ (c .before .before .before .before .before .read-all .last .0)
+    (within (c .before .before .before .before .before) (c .before .before .n .given .0 .0)
+    (c .before .before .n .given .1)))
 
 run-requires : tie.Need-run-requires
 run-requires c κs = search needs

@@ -11,7 +11,8 @@ use Rattle.replay.proofs.operations.Statement.{statement}
 use Rattle.replay.proofs.operations.Tie as tie
 
 abbrev Inv-loop : tie.InvT-loop
-Inv-loop script shelf₀ out₀ at₀ shelf out at = (at ≤ length script) × (length shelf ≡ length shelf₀) × (length out ≡ length out₀)
+Inv-loop script shelf₀ out₀ at₀ shelf out at =
+    (at ≤ length script) × (length shelf ≡ length shelf₀) × (length out ≡ length out₀)
 
 abbrev μ-loop : tie.MeasureT-loop
 μ-loop script shelf₀ out₀ at₀ shelf out at = length script - at
@@ -24,12 +25,16 @@ turn-requires c κs = (c .before .before .loop .inv .0, omega arith)
 
 slice-reshare-prefix-print : tie.Need-slice-reshare-prefix-print Inv-loop μ-loop
 slice-reshare-prefix-print c =
-    let l = c .before .before .before .before .before .before .before .loop in
+    let looped = c .before .before .before .before .before .before .before in
+    let l = looped .loop in
     let done = c .before .before .before .before .turn .ensures in
-    within (turn (operation (drop (l .at) (c .before .before .before .before .before .before .before .before .before .before .before .args .script .now))) (l .shelf) .line) _ (done .0, done .1 .0)
+    let script = looped .before .before .before .before .args .script .now in
+    within (turn (operation (drop (l .at) script)) (l .shelf) .line) _ (done .0, done .1 .0)
 
 slice-aggregate-print : tie.Need-slice-aggregate-print Inv-loop μ-loop
-slice-aggregate-print c = sym (length-take-le _ (c .before .before .before .before .before .turn .last .1 .1 .1 .0) (slice-reshare-prefix-print (c .before)))
+slice-aggregate-print c =
+    sym (length-take-le _ (c .before .before .before .before .before .turn .last .1 .1 .1 .0)
+    (slice-reshare-prefix-print (c .before)))
 
 print-requires : tie.Need-print-requires Inv-loop μ-loop
 print-requires c κs = tt
@@ -46,9 +51,6 @@ returns c = tt
 decode-requires : tie.Need-decode-requires Inv-loop μ-loop
 decode-requires c κs = c .before .before .before .before .before .before .before .before .before .before .loop .inv .0
 
-size-requires : tie.Need-size-requires Inv-loop μ-loop
-size-requires c κs = omega (arith, c .decode .ensures .1)
-
 same-length-3 : tie.Need-same-length-3 Inv-loop μ-loop
 same-length-3 c = search needs
 
@@ -59,16 +61,17 @@ returns-2 : tie.Need-returns-2 Inv-loop μ-loop
 returns-2 c = tt
 
 add-at : tie.Need-add-at Inv-loop μ-loop
-add-at c = omega (arith, c .before .size .ensures, c .before .before .decode .ensures .1)
+add-at c = omega (arith, c .before .decode .ensures .within)
 
 loop-less : tie.Need-loop-less Inv-loop μ-loop
-loop-less c = omega (arith, c .before .size .ensures, c .before .before .decode .ensures .1)
+loop-less c = omega (arith, c .before .decode .ensures .within)
 
 loop-again : tie.Need-loop-again Inv-loop μ-loop
 loop-again c =
-    let l = c .before .before .before .before .before .before .before .before .before .before .before .before .before .loop in
-    let kept = c .before .before .before .before .before .before .before .before .before .before .turn .kept in
-    (omega (arith, c .before .size .ensures, c .before .before .decode .ensures .1), kept .1 .1 .0 ∙ l .inv .1, kept .1 .1 .1 .0 ∙ l .inv .2)
+    let turned = c .before .before .before .before .before .before .before .before .before in
+    let kept = turned .turn .kept in
+    let l = turned .before .before .before .loop in
+    (omega (arith, c .before .decode .ensures .within), kept .1 .1 .0 ∙ l .inv .1, kept .1 .1 .1 .0 ∙ l .inv .2)
 
 pub operations-spec : {M : Type 1} → statement M
 operations-spec =
@@ -85,7 +88,6 @@ operations-spec =
     same-length-2
     returns
     decode-requires
-    size-requires
     same-length-3
     same-length-4
     returns-2

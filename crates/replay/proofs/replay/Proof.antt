@@ -22,14 +22,19 @@ slice-aggregate-shelf c = search needs
 
 shelf-requires : tie.Need-shelf-requires
 shelf-requires c κs =
-    let done = c .before .before .before .before .before .before .operations in
-    subst (λ (k : ℕ). 64 + 2 * length (done .last .1 .0) ≤ k) (whole 524448 0 ∙ sym (done .kept .1 .1 .0)) (omega (arith, done .kept .1 .0, c .before .before .before .before .before .before .before .before .before .before .before .pre .1))
+    let after = c .before .before .before .before .before .before in
+    let done = after .operations in
+    subst (λ (k : ℕ). 64 + 2 * length (done .last .1 .0) ≤ k) (whole 524448 0 ∙ sym (done .kept .1 .1 .0))
+    (omega (arith, done .kept .1 .0, after .before .before .before .before .before .pre .1))
 
 array-share-prefix-out : tie.Need-array-share-prefix-out
-array-share-prefix-out c = within (shelf-line (c .before .before .before .before .before .before .before .before .operations .last .1 .0)) _ (c .before .shelf2 .ensures)
+array-share-prefix-out c =
+    let done = c .before .before .before .before .before .before .before .before .operations in
+    within (shelf-line (done .last .1 .0)) _ (c .before .shelf2 .ensures)
 
 slice-aggregate-print : tie.Need-slice-aggregate-print
-slice-aggregate-print c = sym (length-take-le _ (c .before .before .shelf2 .last .1 .0) (array-share-prefix-out (c .before)))
+slice-aggregate-print c =
+    sym (length-take-le _ (c .before .before .shelf2 .last .1 .0) (array-share-prefix-out (c .before)))
 
 print-requires : tie.Need-print-requires
 print-requires c κs = search needs

@@ -42,7 +42,11 @@ slice-aggregate-replay : tie.Need-slice-aggregate-replay
 slice-aggregate-replay c = first 262144 170 _ (c .before .if3 .left)
 
 replay-requires : tie.Need-replay-requires
-replay-requires c κs = (c .before .before .before .if2 .left, subst (λ (k : ℕ). k ≤ 262144) (slice-aggregate-replay c) (c .before .if3 .left))
+replay-requires c κs = (
+  c .before .before .before .if2 .left,
+  subst (λ (k : ℕ). k ≤ 262144) (slice-aggregate-replay c)
+      (c .before .if3 .left),
+)
 
 returns-4 : tie.Need-returns-4
 returns-4 c = tt

@@ -20,7 +20,9 @@ check-requires-2 : tie.Need-check-requires-2
 check-requires-2 c κs = search needs
 
 returns-2 : tie.Need-returns-2
-returns-2 c = c .check2 .ensures ∙ ap verdict (sym (take-all judged-bytes (c .before .before .before .args .input .now) (omega arith)))
+returns-2 c =
+    c .check2 .ensures ∙ ap verdict
+    (sym (take-all judged-bytes (c .before .before .before .args .input .now) (omega arith)))
 
 pub judge-spec : {M : Type 1} → statement M
 judge-spec =

@@ -1,7 +1,7 @@
 use native.Mathlib.Omega.{arith}
-use Rattle.restrictive.specs.Answers.{means}
+use Rattle.restrictive.specs.Answers.{verdict-of}
 use Rattle.report.specs.Line.{line}
-use Rattle.words.proofs.Laying.{laid-start}
+use Rattle.words.proofs.LaidLaws.{laid-start}
 use borrow.Author.Needs.{needs}
 use Rattle.report.proofs.line.Statement.{statement}
 use Rattle.report.proofs.line.Tie as tie
@@ -28,28 +28,19 @@ violation-requires : tie.Need-violation-requires
 violation-requires c κs = search needs
 
 returns : tie.Need-returns
-unfolding line means
+unfolding line verdict-of
 returns c = rw (c .before .before .before .enum-told .given .1) (laid-start (c .lay .ensures) (omega arith))
 
 returns-2 : tie.Need-returns-2
-unfolding means
+unfolding verdict-of
 returns-2 c = rw (c .before .before .before .v .given .1) (c .refusal .ensures)
 
 returns-3 : tie.Need-returns-3
-unfolding means
+unfolding verdict-of
 returns-3 c = rw (c .before .before .before .v2 .given .1) (c .violation .ensures)
 
 pub line-spec : {M : Type 1} → statement M
 line-spec =
     tie.close
-    (tie.spec
-    enum-told
-    slice-aggregate-lay
-    lay-requires
-    enum-known-v
-    refusal-requires
-    enum-known-v-2
-    violation-requires
-    returns
-    returns-2
-    returns-3)
+    (tie.spec enum-told slice-aggregate-lay lay-requires enum-known-v refusal-requires enum-known-v-2 violation-requires
+    returns returns-2 returns-3)

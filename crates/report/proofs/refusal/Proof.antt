@@ -1,5 +1,5 @@
 use native.Mathlib.Omega.{arith}
-use Rattle.words.proofs.Laying.{laid-start}
+use Rattle.words.proofs.LaidLaws.{laid-start}
 use Rattle.report.proofs.Laying.{laid-refusal}
 use borrow.Author.Needs.{needs}
 use Rattle.report.proofs.refusal.Statement.{statement}
@@ -26,17 +26,11 @@ lay-requires c κs = search needs
 returns : tie.Need-returns
 returns c =
     let end = c .before .before .before in
-    let number = end .before .before .number .ensures in
+    let number = end .before .before .number .ensures .0 in
     laid-start (laid-refusal _ (rw number at (end .labelled .ensures .0)) (c .lay .ensures)) (omega arith)
 
 pub refusal-spec : {M : Type 1} → statement M
 refusal-spec =
     tie.close
-    (tie.spec
-    slice-aggregate-labelled
-    number-requires
-    cast-labelled
-    labelled-requires
-    slice-aggregate-lay
-    lay-requires
+    (tie.spec slice-aggregate-labelled number-requires cast-labelled labelled-requires slice-aggregate-lay lay-requires
     returns)

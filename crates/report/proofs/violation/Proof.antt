@@ -1,7 +1,7 @@
 use native.Mathlib.Omega.{arith}
 use borrow.Author.Needs.{needs}
-use Rattle.restrictive.specs.Answers.{named}
-use Rattle.words.proofs.Laying.{laid-start}
+use Rattle.restrictive.specs.Answers.{violation-of}
+use Rattle.words.proofs.LaidLaws.{laid-start}
 use Rattle.report.proofs.Laying.{laid-violation}
 use Rattle.report.proofs.violation.Statement.{statement}
 use Rattle.report.proofs.violation.Tie as tie
@@ -46,7 +46,7 @@ same-length : tie.Need-same-length
 same-length c = search needs
 
 returns : tie.Need-returns
-unfolding named
+unfolding violation-of
 returns c =
     let other = c .before .before .before .before .before .before .before in
     let to = other .before .before .before .before .before in
@@ -55,7 +55,9 @@ returns c =
     let rule = event .before .before .before .before .before in
     laid-start
     (laid-violation
-    (named (c .before .before .before .before .before .before .before .before .before .before .before .before .before .before .before .before .before .before .before .before .before .before .before .before .before .before .before .before .before .before .before .args .v))
+    (violation-of (c .before .before .before .before .before .before .before .before .before .before .before .before
+    .before .before .before .before .before .before .before .before .before .before .before .before .before .before
+    .before .before .before .before .before .args .v))
     (rule .labelled .ensures .0)
     (event .labelled2 .ensures .0)
     (from .labelled3 .ensures .0)
@@ -67,18 +69,6 @@ returns c =
 pub violation-spec : {M : Type 1} → statement M
 violation-spec =
     tie.close
-    (tie.spec
-    slice-aggregate-labelled
-    labelled-requires
-    slice-aggregate-labelled-2
-    labelled-requires-2
-    slice-aggregate-labelled-3
-    labelled-requires-3
-    slice-aggregate-labelled-4
-    labelled-requires-4
-    slice-aggregate-labelled-5
-    labelled-requires-5
-    slice-aggregate-lay
-    lay-requires
-    same-length
-    returns)
+    (tie.spec slice-aggregate-labelled labelled-requires slice-aggregate-labelled-2 labelled-requires-2
+    slice-aggregate-labelled-3 labelled-requires-3 slice-aggregate-labelled-4 labelled-requires-4
+    slice-aggregate-labelled-5 labelled-requires-5 slice-aggregate-lay lay-requires same-length returns)

@@ -1,8 +1,11 @@
-use mathlib.Core.Path.{_≡_, sym, _∙_}
+use mathlib.Core.Path.{_≡_, refl, sym, ap, _∙_}
 use native.Mathlib.Omega.{arith}
+use lib.ListN.{getD}
 use borrow.Author.Needs.{needs}
-use Rattle.script.specs.Answers.{means, size}
-use Rattle.script.proofs.Decoding.{ended-at, unknown-at, truncated-at, clear-at, load-at, hookup-at, count-at, part-at}
+use Rattle.script.specs.Operation.{sizes, size}
+use Rattle.script.specs.Answers.{operation-of-call, operation-of}
+use Rattle.script.proofs.Operations.{ended-at, unknown-at, truncated-at, clear-at, hookup-at, count-at, part-at}
+use Rattle.script.proofs.Operations.{decoded}
 use Rattle.script.proofs.decode.Statement.{statement}
 use Rattle.script.proofs.decode.Tie as tie
 
@@ -10,46 +13,47 @@ sub-left : tie.Need-sub-left
 sub-left c = search needs
 
 returns : tie.Need-returns
-unfolding means size
-returns c =
-    let a = c .before .before .args in
-    (sym (ended-at (a .s .now) (a .at) (omega arith)), omega arith)
+unfolding operation-of size
+returns c = decoded _ _ _ _ (omega arith) (ended-at _ (c .before .before .args .at) (omega arith)) refl refl tt
 
 u8-at-requires : tie.Need-u8-at-requires
 u8-at-requires c κs = search needs
 
 returns-2 : tie.Need-returns-2
-unfolding means size
+unfolding operation-of size
 returns-2 c =
-    let a = c .before .before .before .before .args in
-    (sym (unknown-at (a .s .now) (a .at) _ (c .before .u8-at .ensures .0) (omega arith) (omega arith)), omega arith)
+    let at = c .before .before .before .before .args .at in
+    let first = c .before .u8-at .ensures .0 in
+    decoded _ at _ _ (omega arith) (unknown-at _ at _ first (omega arith) (c .if2 .taken)) refl refl tt
 
-mul-if3 : tie.Need-mul-if3
-mul-if3 c = search needs
+mul-size : tie.Need-mul-size
+mul-size c = search needs
 
-array-read-if3 : tie.Need-array-read-if3
-array-read-if3 c = search needs
+array-read-size : tie.Need-array-read-size
+array-read-size c = search needs
 
 returns-3 : tie.Need-returns-3
-unfolding means size
+unfolding operation-of size
 returns-3 c =
-    let a = c .before .before .before .before .before .args in
-    (sym (truncated-at (a .s .now) (a .at) _ (c .before .before .u8-at .ensures .0) (omega arith) (omega arith) (omega arith)), omega arith)
+    let at = c .before .before .before .before .before .args .at in
+    let first = c .before .before .u8-at .ensures .0 in
+    decoded _ at _ _ (omega arith) (truncated-at _ at _ first (omega arith) (omega arith) (omega arith)) refl refl tt
 
 returns-4 : tie.Need-returns-4
-unfolding means size
+unfolding operation-of-call operation-of size
 returns-4 c =
-    let a = c .before .before .before .before .before .before .args in
-    (sym (clear-at (a .s .now) (a .at) (sym (c .if4 .taken) ∙ c .before .before .before .u8-at .ensures .0) (omega arith)), omega arith)
+    let at = c .before .before .before .before .before .before .args .at in
+    let size = ap (λ b. getD sizes b 0) (c .if4 .taken) in
+    let first = sym (c .if4 .taken) ∙ c .before .before .before .u8-at .ensures .0 in
+    decoded _ at _ _ (omega arith) (clear-at _ at first (omega arith)) refl size tt
 
 load-requires : tie.Need-load-requires
-load-requires c κs = omega (arith, rw (c .if5 .taken) at (c .before .before .if3 .left))
+load-requires c κs =
+    let first = sym (c .if5 .taken) ∙ c .before .before .before .before .u8-at .ensures .0 in
+    (omega (arith, rw (c .if5 .taken) at (c .before .before .if3 .left)), first)
 
 returns-5 : tie.Need-returns-5
-returns-5 c =
-    let a = c .before .before .before .before .before .before .before .before .args in
-    let fits = rw (c .before .if5 .taken) at (c .before .before .before .if3 .left) in
-    (c .load .ensures .0 ∙ sym (load-at (a .s .now) (a .at) (sym (c .before .if5 .taken) ∙ c .before .before .before .before .before .u8-at .ensures .0) (omega arith)), c .load .ensures .1)
+returns-5 c = search needs
 
 add-u32-at : tie.Need-add-u32-at
 add-u32-at c = search needs
@@ -64,17 +68,21 @@ u32-at-requires-2 : tie.Need-u32-at-requires-2
 u32-at-requires-2 c κs = omega (arith, rw (c .before .if6 .taken) at (c .before .before .before .before .if3 .left))
 
 returns-6 : tie.Need-returns-6
-unfolding means size
+unfolding operation-of-call operation-of size
 returns-6 c =
-    let a = c .before .before .before .before .before .before .before .before .before .before .args in
-    let fits = rw (c .before .before .if6 .taken) at (c .before .before .before .before .before .if3 .left) in
-    (sym (hookup-at (a .s .now) (a .at) _ _ (sym (c .before .before .if6 .taken) ∙ c .before .before .before .before .before .before .before .u8-at .ensures .0) (omega arith) (c .before .u32-at .ensures .0) (c .u32-at2 .ensures .0)), omega arith)
+    let two = c .before .before in
+    let size = ap (λ b. getD sizes b 0) (two .if6 .taken) in
+    let first = sym (two .if6 .taken) ∙ two .before .before .before .before .before .u8-at .ensures .0 in
+    let numbers = hookup-at _ _ _ _ first (omega arith) (c .before .u32-at .ensures .0) (c .u32-at2 .ensures .0) in
+    decoded _ _ _ _ (omega arith) numbers refl size tt
 
 returns-7 : tie.Need-returns-7
-unfolding means size
+unfolding operation-of size
 returns-7 c =
-    let a = c .before .before .before .before .before .before .before .before .before .args in
-    (sym (count-at (a .s .now) (a .at) (sym (c .if7 .taken) ∙ c .before .before .before .before .before .before .u8-at .ensures .0) (omega arith)), omega arith)
+    let at = c .before .before .before .before .before .before .before .before .before .args .at in
+    let size = ap (λ b. getD sizes b 0) (c .if7 .taken) in
+    let first = sym (c .if7 .taken) ∙ c .before .before .before .before .before .before .u8-at .ensures .0 in
+    decoded _ at _ _ (omega arith) (count-at _ at first (omega arith)) refl size tt
 
 add-u32-at-3 : tie.Need-add-u32-at-3
 add-u32-at-3 c = search needs
@@ -85,12 +93,13 @@ u32-at-requires-3 c κs =
     omega (arith, rw last at (c .before .before .before .before .if3 .left))
 
 returns-8 : tie.Need-returns-8
-unfolding means size
+unfolding operation-of size
 returns-8 c =
-    let a = c .before .before .before .before .before .before .before .before .before .before .args in
-    let last : c .before .before .before .before .before .before .before .u8-at .result ≡ 4 = omega arith in
-    let fits = rw last at (c .before .before .before .before .before .if3 .left) in
-    (sym (part-at (a .s .now) (a .at) _ (sym last ∙ c .before .before .before .before .before .before .before .u8-at .ensures .0) (omega arith) (c .u32-at3 .ensures .0)), omega arith)
+    let read = c .before .before .before .before .before .before .before .u8-at in
+    let last : read .result ≡ 4 = omega arith in
+    let size = ap (λ b. getD sizes b 0) last in
+    let number = part-at _ _ _ (sym last ∙ read .ensures .0) (omega arith) (c .u32-at3 .ensures .0) in
+    decoded _ _ _ _ (omega arith) number refl size tt
 
 pub decode-spec : {M : Type 1} → statement M
 decode-spec =
@@ -100,8 +109,8 @@ decode-spec =
     returns
     u8-at-requires
     returns-2
-    mul-if3
-    array-read-if3
+    mul-size
+    array-read-size
     returns-3
     returns-4
     load-requires

@@ -21,10 +21,14 @@ enum-known-n : tie.Need-enum-known-n
 enum-known-n c = search needs
 
 array-share-prefix-buffer : tie.Need-array-share-prefix-buffer
-array-share-prefix-buffer c = within (c .before .before .before .before) (c .before .n .given .0 .0) (c .before .n .given .1)
+array-share-prefix-buffer c =
+    within (c .before .before .before .before) (c .before .n .given .0 .0) (c .before .n .given .1)
 
 slice-aggregate-print : tie.Need-slice-aggregate-print
-slice-aggregate-print c = sym (length-take-le _ (c .before .before .before .before .before .read-all .last .0) (within (c .before .before .before .before .before) (c .before .before .n .given .0 .0) (c .before .before .n .given .1)))
+slice-aggregate-print c =
+    sym (length-take-le _ (c .before .before .before .before .before .read-all .last .0)
+    (within (c .before .before .before .before .before) (c .before .before .n .given .0 .0)
+    (c .before .before .n .given .1)))
 
 print-requires : tie.Need-print-requires
 print-requires c κs = search needs
@@ -47,15 +51,5 @@ returns-2 c = search needs
 pub main-spec : {M : Type 1} → statement M
 main-spec =
     tie.close
-    (tie.spec
-    slice-aggregate-read-all
-    read-all-requires
-    enum-known-n
-    array-share-prefix-buffer
-    slice-aggregate-print
-    print-requires
-    enum-told
-    slice-aggregate-write-all
-    write-all-requires
-    returns
-    returns-2)
+    (tie.spec slice-aggregate-read-all read-all-requires enum-known-n array-share-prefix-buffer slice-aggregate-print
+    print-requires enum-told slice-aggregate-write-all write-all-requires returns returns-2)

@@ -38,12 +38,5 @@ returns-2 c = search needs
 pub print-spec : {M : Type 1} → statement M
 print-spec =
     tie.close
-    (tie.spec
-    line-of-requires
-    array-share-prefix-out
-    slice-aggregate-write-all
-    write-all-requires
-    slice-aggregate-write-all-2
-    write-all-requires-2
-    returns
-    returns-2)
+    (tie.spec line-of-requires array-share-prefix-out slice-aggregate-write-all write-all-requires
+    slice-aggregate-write-all-2 write-all-requires-2 returns returns-2)

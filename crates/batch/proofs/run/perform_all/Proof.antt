@@ -2,7 +2,7 @@ use Prim.Native.Nat.{_-_}
 use native.Mathlib.Omega.{arith}
 use lib.ListN.{length}
 use borrow.Author.Needs.{needs}
-use Rattle.batch.proofs.Running.{Made, made-none, made-end, made-room, made-further, made-next}
+use Rattle.batch.proofs.Runs.{Made, made-none, made-end, made-room, made-further, made-next}
 use Rattle.batch.proofs.run.perform_all.Statement.{statement}
 use Rattle.batch.proofs.run.perform_all.Tie as tie
 
@@ -15,8 +15,8 @@ abbrev μ-loop : tie.MeasureT-loop
 loop-holds : tie.Need-loop-holds Inv-loop μ-loop
 loop-holds c = let p = c .before .before .before .pre in made-none _ _ _ (p .0) (p .1)
 
-perform-requires : tie.Need-perform-requires Inv-loop μ-loop
-perform-requires c κs =
+perform-at-requires : tie.Need-perform-at-requires Inv-loop μ-loop
+perform-at-requires c κs =
     let l = c .before .before .before .loop in
     (l .inv .within, made-room _ _ _ _ _ (l .at) (l .slot) (l .inv) (omega arith))
 
@@ -28,12 +28,17 @@ add-slot c =
 loop-less : tie.Need-loop-less Inv-loop μ-loop
 loop-less c =
     let l = c .before .before .before .before .before .before .before .before .loop in
-    omega (arith, made-further _ _ _ _ _ (l .at) (l .slot) (l .inv) (omega arith) _ _ _ (c .before .before .before .before .perform .ensures))
+    omega (
+      arith,
+      made-further _ _ _ _ _ (l .at) (l .slot) (l .inv) (omega arith) _ _ _
+          (c .before .before .before .before .perform-at .ensures),
+    )
 
 loop-again : tie.Need-loop-again Inv-loop μ-loop
 loop-again c =
     let l = c .before .before .before .before .before .before .before .before .loop in
-    made-next _ _ _ _ _ (l .at) (l .slot) (l .inv) (omega arith) _ _ _ (c .before .before .before .before .perform .ensures) (search needs)
+    made-next _ _ _ _ _ (l .at) (l .slot) (l .inv) (omega arith) _ _ _
+    (c .before .before .before .before .perform-at .ensures) (search needs)
 
 same-length : tie.Need-same-length Inv-loop μ-loop
 same-length c = c .before .loop .inv .shelf-size
@@ -53,7 +58,7 @@ perform-all-spec =
     Inv-loop
     μ-loop
     loop-holds
-    perform-requires
+    perform-at-requires
     add-slot
     loop-less
     loop-again

@@ -1,6 +1,6 @@
 use native.Mathlib.Omega.{arith}
 use borrow.Author.Needs.{needs}
-use Rattle.batch.proofs.Slotting.{last-word, first-word}
+use Rattle.batch.proofs.Slots.{last-word, first-word}
 use Rattle.batch.proofs.slot.put.Statement.{statement}
 use Rattle.batch.proofs.slot.put.Tie as tie
 
@@ -42,10 +42,12 @@ same-length c = search needs
 
 returns : tie.Need-returns
 returns c =
-    first-word _ _ _ _ (c .before .before .before .before .before .before .before .before .before .before .before .before .before .before .before .before .before .before .before .before .before .before .put64 .ensures) (omega arith)
-    (first-word _ _ _ _ (c .before .before .before .before .before .before .before .before .before .before .before .before .before .before .before .before .before .before .put642 .ensures) (omega arith)
-    (first-word _ _ _ _ (c .before .before .before .before .before .before .before .before .before .before .before .before .before .before .put643 .ensures) (omega arith)
-    (first-word _ _ _ _ (c .before .before .before .before .before .before .before .before .before .before .put644 .ensures) (omega arith)
+    let fourth = c .before .before .before .before .before .before .before .before .before .before in
+    let second = fourth .before .before .before .before .before .before .before .before in
+    first-word _ _ _ _ (second .before .before .before .before .put64 .ensures) (omega arith)
+    (first-word _ _ _ _ (second .put642 .ensures) (omega arith)
+    (first-word _ _ _ _ (fourth .before .before .before .before .put643 .ensures) (omega arith)
+    (first-word _ _ _ _ (fourth .put644 .ensures) (omega arith)
     (first-word _ _ _ _ (c .before .before .before .before .before .before .put645 .ensures) (omega arith)
     (last-word _ _ _ (c .before .before .put646 .ensures))))))
 

@@ -1,6 +1,6 @@
 use borrow.Author.Needs.{needs}
-use Rattle.restrictive.specs.Answers.{named}
-use Rattle.store.specs.Answers.{says}
+use Rattle.restrictive.specs.Answers.{violation-of}
+use Rattle.store.specs.Answers.{answer-of}
 use Rattle.batch.specs.Slots.{numbers}
 use Rattle.batch.proofs.slot.put_answer.Statement.{statement}
 use Rattle.batch.proofs.slot.put_answer.Tie as tie
@@ -33,28 +33,28 @@ same-length : tie.Need-same-length
 same-length c = search needs
 
 returns : tie.Need-returns
-unfolding numbers says
+unfolding numbers answer-of
 returns c = rw (c .before .before .before .before .before .a .given .1) (c .before .before .put-one .ensures)
 
 same-length-2 : tie.Need-same-length-2
 same-length-2 c = search needs
 
 returns-2 : tie.Need-returns-2
-unfolding numbers says
+unfolding numbers answer-of
 returns-2 c = rw (c .before .before .before .before .before .a2 .given .1) (c .before .before .put-one2 .ensures)
 
 same-length-3 : tie.Need-same-length-3
 same-length-3 c = search needs
 
 returns-3 : tie.Need-returns-3
-unfolding numbers says
+unfolding numbers answer-of
 returns-3 c = rw (c .before .before .before .before .before .a3 .given .1) (c .before .before .put-one3 .ensures)
 
 same-length-4 : tie.Need-same-length-4
 same-length-4 c = search needs
 
 returns-4 : tie.Need-returns-4
-unfolding numbers says named
+unfolding numbers answer-of violation-of
 returns-4 c = rw (c .before .before .before .before .before .a4 .given .1) (c .before .before .put .ensures)
 
 pub put-answer-spec : {M : Type 1} → statement M

@@ -1,7 +1,7 @@
 use mathlib.Core.Path.{sym}
 use native.Mathlib.Omega.{arith}
 use borrow.Author.Needs.{needs}
-use Rattle.composite.proofs.Walking.{first-ended, second-ended, both-left}
+use Rattle.composite.proofs.EntryWalk.{first-ended, second-ended, both-left}
 use Rattle.composite.proofs.merge.comes_first.Statement.{statement}
 use Rattle.composite.proofs.merge.comes_first.Tie as tie
 
@@ -34,11 +34,4 @@ returns-3 c =
 pub comes-first-spec : {M : Type 1} → statement M
 comes-first-spec =
     tie.close
-    (tie.spec
-    events-requires
-    returns
-    events-requires-2
-    returns-2
-    identifier-requires
-    identifier-requires-2
-    returns-3)
+    (tie.spec events-requires returns events-requires-2 returns-2 identifier-requires identifier-requires-2 returns-3)

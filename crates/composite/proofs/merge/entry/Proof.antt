@@ -1,10 +1,10 @@
-use mathlib.Core.Path.{_≡_, refl}
+use mathlib.Core.Path.{_≡_}
 use Prim.Native.Nat.{_+_, _-_}
 use native.Mathlib.Omega.{arith}
 use borrow.Author.Needs.{needs}
 use Rattle.part.specs.Record.{entry-at}
 use Rattle.composite.specs.Walk.{entry}
-use Rattle.composite.proofs.Walking.{entry-inside}
+use Rattle.composite.proofs.EntryWalk.{entry-inside}
 use Rattle.composite.proofs.merge.entry.Statement.{statement}
 use Rattle.composite.proofs.merge.entry.Tie as tie
 
@@ -22,14 +22,15 @@ part-result-start : tie.Need-part-result-start
 part-result-start c = search needs
 
 part-result-end : tie.Need-part-result-end
-part-result-end c = omega (arith, c .entry .ensures, entry-inside _ (c .before .before .pre .0) _ (c .before .before .pre .1))
+part-result-end c =
+    omega (arith, c .entry .ensures, entry-inside _ (c .before .before .pre .0) _ (c .before .before .pre .1))
 
 returns : tie.Need-returns
 unfolding entry
 returns c =
     let at = c .before .entry .result in
     let four : at + 4 - at ≡ 4 = omega arith in
-    rw (four, c .before .entry .ensures) refl
+    rw (four, c .before .entry .ensures)
 
 pub entry-spec : {M : Type 1} → statement M
 entry-spec =

@@ -2,7 +2,7 @@ use mathlib.Core.Path.{sym, _∙_}
 use native.Mathlib.Numerals.{add-one}
 use native.Mathlib.Omega.{arith}
 use borrow.Author.Needs.{needs}
-use Rattle.composite.proofs.Walking.{past-ended, past-other, past-same}
+use Rattle.composite.proofs.EntryWalk.{past-ended, past-other, past-same}
 use Rattle.composite.proofs.merge.past.Statement.{statement}
 use Rattle.composite.proofs.merge.past.Tie as tie
 

@@ -1,7 +1,7 @@
 use Prim.Native.Nat.{ℕ}
 use mathlib.Core.Path.{_≡_, sym, _∙_}
 use native.Mathlib.Omega.{arith}
-use Rattle.part.specs.Machine.{kind-of}
+use Rattle.part.specs.Events.{kind-of}
 use Rattle.part.proofs.Ranges.{frame, ranges}
 use Rattle.composite.specs.Walk.{meeting}
 use Rattle.composite.proofs.Obstacles.{alone, kinds-clash, levels-clash, meeting-clash, meeting-meets}
@@ -9,7 +9,8 @@ use Rattle.composite.proofs.obstacle.clash_at.Statement.{statement}
 use Rattle.composite.proofs.obstacle.clash_at.Tie as tie
 
 -- What the table says of the kinds that were read.
-met : {r x y : ℕ} (i j : ℕ) → x ≡ i → y ≡ j → r ≡ meeting (kind-of x) (kind-of y) → r ≡ meeting (kind-of i) (kind-of j)
+met : {r x y : ℕ} (i j : ℕ) → x ≡ i → y ≡ j → r ≡ meeting (kind-of x) (kind-of y)
+    → r ≡ meeting (kind-of i) (kind-of j)
 met i j p q e = rw (← p, ← q) e
 
 events-requires : tie.Need-events-requires
@@ -33,35 +34,33 @@ meeting-requires c κs =
 
 returns-2 : tie.Need-returns-2
 returns-2 c =
-    let p = c .before .before .before .before .before .before .before .before .pre in
-    kinds-clash _ _ (p .0) _ (p .1 .1 .0) _ (p .1 .1 .1) (omega arith)
-    (meeting-clash _ _ (sym (met _ _ (c .before .before .before .event-kind .ensures .0) (c .before .before .event-kind2 .ensures .0) (c .before .meeting .ensures)) ∙ c .if2 .taken))
+    let k = c .before .before in
+    let p = k .before .before .before .before .before .before .pre in
+    let is = met _ _ (k .before .event-kind .ensures .0) (k .event-kind2 .ensures .0) (c .before .meeting .ensures) in
+    kinds-clash _ _ (p .0) _ (p .1 .1 .0) _ (p .1 .1 .1) (omega arith) (meeting-clash _ _ (sym is ∙ c .if2 .taken))
 
 level-requires : tie.Need-level-requires
-level-requires c κs = let p = c .before .before .before .before .before .before .before .before .pre in (frame _ (p .0), p .1 .1 .0)
+level-requires c κs =
+    let p = c .before .before .before .before .before .before .before .before .pre in (frame _ (p .0), p .1 .1 .0)
 
 level-requires-2 : tie.Need-level-requires-2
-level-requires-2 c κs = let p = c .before .before .before .before .before .before .before .before .before .pre in (frame _ (p .1 .0), omega arith)
+level-requires-2 c κs =
+    let p = c .before .before .before .before .before .before .before .before .before .pre in
+    (frame _ (p .1 .0), omega arith)
 
 returns-3 : tie.Need-returns-3
 returns-3 c =
-    let p = c .before .before .before .before .before .before .before .before .before .before .pre in
-    let first = c .before .level .ensures in
-    let second = c .level2 .ensures in
-    rw (first, second)
+    let k = c .before .before .before .before in
+    let p = k .before .before .before .before .before .before .pre in
+    let is =
+    met _ _ (k .before .event-kind .ensures .0) (k .event-kind2 .ensures .0)
+    (c .before .before .before .meeting .ensures) in
+    rw (c .before .level .ensures, c .level2 .ensures)
     (levels-clash _ _ (p .0) _ (p .1 .1 .0) _ (p .1 .1 .1) (omega arith)
-    (meeting-meets _ _ (λ q. c .before .before .if2 .left (met _ _ (c .before .before .before .before .before .event-kind .ensures .0) (c .before .before .before .before .event-kind2 .ensures .0) (c .before .before .before .meeting .ensures) ∙ q))))
+    (meeting-meets _ _ (λ q. c .before .before .if2 .left (is ∙ q))))
 
 pub clash-at-spec : {M : Type 1} → statement M
 clash-at-spec =
     tie.close
-    (tie.spec
-    events-requires
-    returns
-    event-kind-requires
-    event-kind-requires-2
-    meeting-requires
-    returns-2
-    level-requires
-    level-requires-2
-    returns-3)
+    (tie.spec events-requires returns event-kind-requires event-kind-requires-2 meeting-requires returns-2
+    level-requires level-requires-2 returns-3)

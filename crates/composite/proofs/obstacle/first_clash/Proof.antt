@@ -4,10 +4,11 @@ use mathlib.Core.Option.{none, some}
 use native.Mathlib.Omega.{arith}
 use Rattle.bounded.specs.Search.{first}
 use Rattle.bounded.proofs.Search.{first-more, first-hit, first-done}
-use Rattle.part.specs.Machine.{place-or-end}
+use Rattle.part.specs.Frame.{place-or-end}
 use Rattle.part.proofs.Ranges.{frame, ranges}
 use Rattle.composite.specs.Joining.{clash, clash-at, first-clash}
-use Rattle.composite.specs.Answers.{stops, obstacle-of}
+use Rattle.composite.specs.Answers.{obstacle-of}
+use Rattle.composite.specs.Walk.{fit-of}
 use Rattle.composite.proofs.Obstacles.{clash-here, no-clash-here}
 use Rattle.composite.proofs.obstacle.first_clash.Statement.{statement}
 use Rattle.composite.proofs.obstacle.first_clash.Tie as tie
@@ -30,15 +31,17 @@ identifier-requires : tie.Need-identifier-requires Inv-loop μ-loop
 identifier-requires c κs = let p = c .before .before .before .before .before .pre in (frame _ (p .0), omega arith)
 
 place-near-requires : tie.Need-place-near-requires Inv-loop μ-loop
-place-near-requires c κs = let p = c .before .before .before .before .before .before .pre in (frame _ (p .1), ranges _ (p .1) .identifiers-rise)
+place-near-requires c κs =
+    let p = c .before .before .before .before .before .before .pre .1 in (frame _ p, ranges _ p .identifiers-rise)
 
 clash-at-requires : tie.Need-clash-at-requires Inv-loop μ-loop
 clash-at-requires c κs =
     let start = c .before .before .before .before .before .before .before in
-    (start .pre .0, (start .pre .1, (omega arith, c .place-near .ensures ∙ ap (place-or-end (start .args .b .now)) (c .before .identifier .ensures .0))))
+    let near = c .place-near .ensures ∙ ap (place-or-end (start .args .b .now)) (c .before .identifier .ensures .0) in
+    (start .pre .0, (start .pre .1, (omega arith, near)))
 
 returns : tie.Need-returns Inv-loop μ-loop
-unfolding stops obstacle-of first-clash
+unfolding fit-of obstacle-of first-clash
 returns c =
     let l = c .before .before .before .before .before .loop in
     let here = clash-here _ _ (l .i) (c .before .clash-at .ensures) (c .if1 .taken) in
@@ -46,7 +49,8 @@ returns c =
     ∙ sym (first-hit (clash-at _ _) _ (l .i) _ (omega arith) (l .inv .1) here)
 
 events-requires-2 : tie.Need-events-requires-2 Inv-loop μ-loop
-events-requires-2 c κs = omega (arith, frame _ (c .before .before .before .before .before .before .before .before .before .pre .1) .whole)
+events-requires-2 c κs =
+    omega (arith, frame _ (c .before .before .before .before .before .before .before .before .before .pre .1) .whole)
 
 add-near : tie.Need-add-near Inv-loop μ-loop
 add-near c = omega arith
@@ -64,24 +68,11 @@ loop-again c =
     (omega arith, first-more _ (l .i) (l .inv .1) here)
 
 returns-2 : tie.Need-returns-2 Inv-loop μ-loop
-unfolding stops first-clash
+unfolding fit-of first-clash
 returns-2 c = sym (first-done (clash-at _ _) _ (c .before .loop .i) (omega arith) (c .before .loop .inv .1))
 
 pub first-clash-spec : {M : Type 1} → statement M
 first-clash-spec =
     tie.close
-    (tie.spec
-    Inv-loop
-    μ-loop
-    events-requires
-    loop-holds
-    identifier-requires
-    place-near-requires
-    clash-at-requires
-    returns
-    events-requires-2
-    add-near
-    add-i
-    loop-less
-    loop-again
-    returns-2)
+    (tie.spec Inv-loop μ-loop events-requires loop-holds identifier-requires place-near-requires clash-at-requires
+    returns events-requires-2 add-near add-i loop-less loop-again returns-2)

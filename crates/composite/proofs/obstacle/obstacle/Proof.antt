@@ -2,7 +2,8 @@ use mathlib.Core.Path.{sym, ap, _∙_}
 use native.Mathlib.Omega.{arith}
 use borrow.Author.Needs.{needs}
 use Rattle.part.proofs.Ranges.{frame}
-use Rattle.composite.specs.Answers.{stops, obstacle-of}
+use Rattle.composite.specs.Answers.{obstacle-of}
+use Rattle.composite.specs.Walk.{fit-of}
 use Rattle.composite.proofs.Obstacles.{equal, unequal, different, clashing, large, clear}
 use Rattle.composite.proofs.obstacle.obstacle.Statement.{statement}
 use Rattle.composite.proofs.obstacle.obstacle.Tie as tie
@@ -14,8 +15,10 @@ observer-requires-2 : tie.Need-observer-requires-2
 observer-requires-2 c κs = omega (arith, frame _ (c .before .before .before .pre .1 .0) .whole)
 
 returns : tie.Need-returns
-unfolding stops obstacle-of
-returns c = sym (different _ _ (unequal _ _ (c .before .before .observer .ensures) (c .before .observer2 .ensures) (c .if1 .taken)))
+unfolding fit-of obstacle-of
+returns c =
+    sym (different _ _ (unequal _ _ (c .before .before .observer .ensures) (c .before .observer2 .ensures)
+    (c .if1 .taken)))
 
 first-clash-requires : tie.Need-first-clash-requires
 first-clash-requires c κs = search needs
@@ -24,10 +27,12 @@ enum-known-clash : tie.Need-enum-known-clash
 enum-known-clash c = search needs
 
 returns-2 : tie.Need-returns-2
-unfolding stops
+unfolding fit-of
 returns-2 c =
-    let same = equal _ _ (c .before .before .before .before .before .before .observer .ensures) (c .before .before .before .before .before .observer2 .ensures) (c .before .before .before .before .if1 .left) in
-    sym (clashing _ _ _ same (sym (c .before .before .before .first-clash .ensures) ∙ ap stops (c .before .clash .given .1)))
+    let k = c .before .before .before .before in
+    let same = equal _ _ (k .before .before .observer .ensures) (k .before .observer2 .ensures) (k .if1 .left) in
+    sym (clashing _ _ _ same
+    (sym (c .before .before .before .first-clash .ensures) ∙ ap fit-of (c .before .clash .given .1)))
 
 enum-told : tie.Need-enum-told
 enum-told c = search needs
@@ -36,28 +41,27 @@ too-large-requires : tie.Need-too-large-requires
 too-large-requires c κs = search needs
 
 returns-3 : tie.Need-returns-3
-unfolding stops obstacle-of
+unfolding fit-of obstacle-of
 returns-3 c =
-    let same = equal _ _ (c .before .before .before .before .before .before .before .observer .ensures) (c .before .before .before .before .before .before .observer2 .ensures) (c .before .before .before .before .before .if1 .left) in
-    sym (large _ _ same (sym (c .before .before .before .before .first-clash .ensures) ∙ ap stops (c .before .before .enum-told .given .1)) (sym (c .before .too-large .ensures) ∙ c .if2 .taken))
+    let k = c .before .before .before .before .before in
+    let same = equal _ _ (k .before .before .observer .ensures) (k .before .observer2 .ensures) (k .if1 .left) in
+    let clashless =
+    sym (c .before .before .before .before .first-clash .ensures) ∙ ap fit-of
+    (c .before .before .enum-told .given .1) in
+    sym (large _ _ same clashless (sym (c .before .too-large .ensures) ∙ c .if2 .taken))
 
 returns-4 : tie.Need-returns-4
-unfolding stops
+unfolding fit-of
 returns-4 c =
-    let same = equal _ _ (c .before .before .before .before .before .before .before .observer .ensures) (c .before .before .before .before .before .before .observer2 .ensures) (c .before .before .before .before .before .if1 .left) in
-    sym (clear _ _ same (sym (c .before .before .before .before .first-clash .ensures) ∙ ap stops (c .before .before .enum-told .given .1)) (sym (c .before .too-large .ensures) ∙ c .if2 .left))
+    let k = c .before .before .before .before .before in
+    let same = equal _ _ (k .before .before .observer .ensures) (k .before .observer2 .ensures) (k .if1 .left) in
+    let clashless =
+    sym (c .before .before .before .before .first-clash .ensures) ∙ ap fit-of
+    (c .before .before .enum-told .given .1) in
+    sym (clear _ _ same clashless (sym (c .before .too-large .ensures) ∙ c .if2 .left))
 
 pub obstacle-spec : {M : Type 1} → statement M
 obstacle-spec =
     tie.close
-    (tie.spec
-    observer-requires
-    observer-requires-2
-    returns
-    first-clash-requires
-    enum-known-clash
-    returns-2
-    enum-told
-    too-large-requires
-    returns-3
-    returns-4)
+    (tie.spec observer-requires observer-requires-2 returns first-clash-requires enum-known-clash returns-2 enum-told
+    too-large-requires returns-3 returns-4)

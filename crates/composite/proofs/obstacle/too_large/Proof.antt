@@ -17,7 +17,9 @@ returns : tie.Need-returns
 returns c = many-states _ _ (c .before .before .states .ensures .0) (c .before .states2 .ensures .0) (c .if1 .taken)
 
 returns-2 : tie.Need-returns-2
-returns-2 c = many-events _ _ (c .before .before .states .ensures .0) (c .before .states2 .ensures .0) (c .if1 .left) (c .before .before .before .before .before .pre .1 .1)
+returns-2 c =
+    many-events _ _ (c .before .before .states .ensures .0) (c .before .states2 .ensures .0) (c .if1 .left)
+    (c .before .before .before .before .before .pre .1 .1)
 
 pub too-large-spec : {M : Type 1} → statement M
 too-large-spec = tie.close (tie.spec states-requires states-requires-2 mul-if1 returns returns-2)

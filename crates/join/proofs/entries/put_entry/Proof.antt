@@ -1,7 +1,7 @@
 use native.Mathlib.Omega.{arith}
 use lib.ListN.{length-set}
 use borrow.Author.Needs.{needs}
-use Rattle.join.proofs.Entering.{entry-laid}
+use Rattle.join.proofs.HeadEntries.{entry-laid}
 use Rattle.join.proofs.entries.put_entry.Statement.{statement}
 use Rattle.join.proofs.entries.put_entry.Tie as tie
 
@@ -27,17 +27,11 @@ same-length : tie.Need-same-length
 same-length c = search needs
 
 returns : tie.Need-returns
-returns c = rw (c .before .before .put16 .ensures) (entry-laid _ _ _ _ _ _ _ (c .before .before .before .before .sort-of .ensures))
+returns c =
+    rw (c .before .before .put16 .ensures)
+    (entry-laid _ _ _ _ _ _ _ (c .before .before .before .before .sort-of .ensures))
 
 pub put-entry-spec : {M : Type 1} → statement M
 put-entry-spec =
     tie.close
-    (tie.spec
-    sort-of-requires
-    put16-requires
-    add-out
-    slice-write-out
-    add-out-2
-    slice-write-out-2
-    same-length
-    returns)
+    (tie.spec sort-of-requires put16-requires add-out slice-write-out add-out-2 slice-write-out-2 same-length returns)

@@ -27,7 +27,8 @@ returns-2 c =
     let own = c .before .before .before .before .before .compartments .ensures in
     let other = c .before .before .before .before .compartments2 .ensures in
     let test = c .if2 .taken in
-    sym (all-common _ _ (omega (arith, c .before .before .before .rank .ensures, c .before .before .rank2 .ensures)) (cc))
+    sym (all-common _ _ (omega (arith, c .before .before .before .rank .ensures, c .before .before .rank2 .ensures))
+    (cc))
 
 returns-3 : tie.Need-returns-3
 unfolding intersection
@@ -37,13 +38,5 @@ returns-3 c =
     sym (some-missing _ _ (λ e. c .if2 .left (cc)))
 
 pub at-or-below-spec : {M : Type 1} → statement M
-at-or-below-spec =
-    tie.close
-    (tie.spec
-    compartments-requires
-    compartments-requires-2
-    rank-requires
-    rank-requires-2
-    returns
-    returns-2
-    returns-3)
+at-or-below-spec = tie.close (tie.spec compartments-requires compartments-requires-2 rank-requires rank-requires-2
+    returns returns-2 returns-3)

@@ -29,7 +29,9 @@ falls-at-requires c κs = (c .before .before .before .before .pre, omega arith)
 
 returns : tie.Need-returns Inv-loop μ-loop
 unfolding falling
-returns c = scan-hit (falls-at _) _ (c .before .before .before .loop .i) (omega arith) (let test = c .before .falls-at .ensures in let went = c .if1 .taken in cc)
+returns c =
+    scan-hit (falls-at _) _ (c .before .before .before .loop .i) (omega arith)
+    (let test = c .before .falls-at .ensures in let went = c .if1 .taken in cc)
 
 add-i : tie.Need-add-i Inv-loop μ-loop
 add-i c = omega arith
@@ -38,11 +40,16 @@ loop-less : tie.Need-loop-less Inv-loop μ-loop
 loop-less c = omega arith
 
 loop-again : tie.Need-loop-again Inv-loop μ-loop
-loop-again c = (omega arith, any-more (falls-at _) (c .before .before .before .loop .i) (c .before .before .before .loop .inv .1) (let test = c .before .falls-at .ensures in let went = c .if1 .left in cc))
+loop-again c = (
+  omega arith,
+  any-more _ _ (c .before .before .before .loop .inv .1)
+      (let test = c .before .falls-at .ensures in let went = c .if1 .left in cc),
+)
 
 returns-2 : tie.Need-returns-2 Inv-loop μ-loop
 unfolding falling
-returns-2 c = scan-done (falls-at _) _ _ (omega arith) (c .before .loop .inv .1)
+returns-2 c = scan-done _ _ _ (omega arith) (c .before .loop .inv .1)
 
 pub falling-spec : {M : Type 1} → statement M
-falling-spec = tie.close (tie.spec Inv-loop μ-loop events-requires loop-holds add-loop falls-at-requires returns add-i loop-less loop-again returns-2)
+falling-spec = tie.close (tie.spec Inv-loop μ-loop events-requires loop-holds add-loop falls-at-requires returns add-i
+    loop-less loop-again returns-2)

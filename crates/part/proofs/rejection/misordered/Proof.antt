@@ -10,14 +10,15 @@ falling-requires c κs = search needs
 
 returns : tie.Need-returns
 unfolding misordered
-returns c = sym (or-now _ (unknown-kind _) (sym (c .before .falling .ensures) ∙ c .if1 .taken))
+returns c = sym (or-now _ _ (sym (c .before .falling .ensures) ∙ c .if1 .taken))
 
 unknown-kind-requires : tie.Need-unknown-kind-requires
 unknown-kind-requires c κs = search needs
 
 returns-2 : tie.Need-returns-2
 unfolding misordered
-returns-2 c = c .unknown-kind .ensures ∙ sym (or-then _ (unknown-kind _) (sym (c .before .before .falling .ensures) ∙ c .before .if1 .left))
+returns-2 c = c .unknown-kind .ensures
+    ∙ sym (or-then _ _ (sym (c .before .before .falling .ensures) ∙ c .before .if1 .left))
 
 pub misordered-spec : {M : Type 1} → statement M
 misordered-spec = tie.close (tie.spec falling-requires returns unknown-kind-requires returns-2)

@@ -1,17 +1,15 @@
 use mathlib.Core.Path.{sym, ap, _∙_}
 use lib.Dec.{ltb}
-use Rattle.part.specs.Limits.{max-events}
+use Rattle.part.specs.Format.{max-events}
 use Rattle.part.proofs.Rejections.{long, rest, range-broken, last-range-test}
 use borrow.Author.Needs.{needs}
 use native.Mathlib.Omega.{arith}
 use Rattle.part.proofs.rejection.out_of_range.Statement.{statement}
 use Rattle.part.proofs.rejection.out_of_range.Tie as tie
 
-add-if1 : tie.Need-add-if1
-add-if1 c = search needs
-
 returns : tie.Need-returns
-returns c = let six = long _ (c .before .before .pre .0) in let after = rest _ (c .before .before .pre .1) in sym (range-broken _ (λ k. omega arith))
+returns c = let six = long _ (c .before .before .pre .0) in let after = rest _ (c .before .before .pre .1) in
+    sym (range-broken _ (λ k. omega arith))
 
 states-requires : tie.Need-states-requires
 states-requires c κs = search needs
@@ -32,7 +30,11 @@ events-requires : tie.Need-events-requires
 events-requires c κs = search needs
 
 returns-5 : tie.Need-returns-5
-returns-5 c = let six = long _ (c .before .before .before .before .before .before .before .before .pre .0) in let after = rest _ (c .before .before .before .before .before .before .before .before .pre .1) in ap (ltb max-events) (c .events .ensures .0) ∙ sym (last-range-test _ (omega arith) (omega arith) (omega arith) (omega arith))
+returns-5 c = let six = long _ (c .before .before .before .before .before .before .before .before .pre .0) in
+    let after = rest _ (c .before .before .before .before .before .before .before .before .pre .1) in
+    ap (ltb max-events) (c .events .ensures .0)
+    ∙ sym (last-range-test _ (omega arith) (omega arith) (omega arith) (omega arith))
 
 pub out-of-range-spec : {M : Type 1} → statement M
-out-of-range-spec = tie.close (tie.spec add-if1 returns states-requires returns-2 returns-3 start-requires returns-4 events-requires returns-5)
+out-of-range-spec = tie.close (tie.spec returns states-requires returns-2 returns-3 start-requires returns-4
+    events-requires returns-5)

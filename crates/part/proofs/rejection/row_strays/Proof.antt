@@ -18,7 +18,8 @@ loop-holds : tie.Need-loop-holds Inv-loop μ-loop
 loop-holds c = (omega arith, united-none _ _)
 
 row-requires : tie.Need-row-requires Inv-loop μ-loop
-row-requires c κs = (c .before .before .before .before .pre .0, (c .before .before .before .before .pre .1, omega arith))
+row-requires c κs =
+    (c .before .before .before .before .pre .0, (c .before .before .before .before .pre .1, omega arith))
 
 union-requires : tie.Need-union-requires Inv-loop μ-loop
 union-requires c κs = tt
@@ -30,13 +31,20 @@ loop-less : tie.Need-loop-less Inv-loop μ-loop
 loop-less c = omega arith
 
 loop-again : tie.Need-loop-again Inv-loop μ-loop
-loop-again c = (omega arith, rw (c .union .ensures) (united-next _ _ (c .before .before .before .loop .s) _ _ (c .before .before .before .loop .inv .1) (c .before .row .ensures)))
+loop-again c = (
+  omega arith,
+  rw (c .union .ensures)
+      (united-next _ _ _ _ _ (c .before .before .before .loop .inv .1) (c .before .row .ensures)),
+)
 
 exceeds-requires : tie.Need-exceeds-requires Inv-loop μ-loop
 exceeds-requires c κs = omega arith
 
 returns : tie.Need-returns Inv-loop μ-loop
-returns c = c .exceeds .ensures ∙ united-done _ _ _ (c .before .before .loop .s) _ (c .before .before .before .states .ensures .0) (omega arith) (c .before .before .loop .inv .1)
+returns c = c .exceeds .ensures
+    ∙ united-done _ _ _ _ _ (c .before .before .before .states .ensures .0) (omega arith)
+    (c .before .before .loop .inv .1)
 
 pub row-strays-spec : {M : Type 1} → statement M
-row-strays-spec = tie.close (tie.spec Inv-loop μ-loop states-requires loop-holds row-requires union-requires add-s loop-less loop-again exceeds-requires returns)
+row-strays-spec = tie.close (tie.spec Inv-loop μ-loop states-requires loop-holds row-requires union-requires add-s
+    loop-less loop-again exceeds-requires returns)

@@ -8,7 +8,8 @@ use Rattle.relations.proofs.event.look_up.Statement.{statement}
 use Rattle.relations.proofs.event.look_up.Tie as tie
 
 abbrev Inv-loop : tie.InvT-loop
-Inv-loop b i table n at words₀ s₀ words s = (s ≤ n) × Filled (sets-of (λ u. gathered 64 (row b i u) table)) s words₀ words
+Inv-loop b i table n at words₀ s₀ words s =
+    (s ≤ n) × Filled (sets-of (λ u. gathered 64 (row b i u) table)) s words₀ words
 
 abbrev μ-loop : tie.MeasureT-loop
 μ-loop b i table n at words₀ s₀ words s = n - s
@@ -23,7 +24,13 @@ loop-holds : tie.Need-loop-holds Inv-loop μ-loop
 loop-holds c = (omega arith, filled-start (c .words .given .0 .1))
 
 row-from-requires : tie.Need-row-from-requires Inv-loop μ-loop
-row-from-requires c κs = (c .before .before .before .before .before .before .pre .0, (c .before .before .before .before .before .before .pre .1, (omega arith, c .before .before .before .rows .ensures)))
+row-from-requires c κs = (
+  c .before .before .before .before .before .before .pre .0,
+  (
+    c .before .before .before .before .before .before .pre .1,
+    (omega arith, c .before .before .before .rows .ensures),
+  ),
+)
 
 gather-requires : tie.Need-gather-requires Inv-loop μ-loop
 gather-requires c κs = tt
@@ -41,25 +48,15 @@ loop-less : tie.Need-loop-less Inv-loop μ-loop
 loop-less c = omega arith
 
 loop-again : tie.Need-loop-again Inv-loop μ-loop
-loop-again c = (omega arith, filled-more (c .gather .result) (omega arith) (c .before .before .before .loop .inv .1) (rw (c .before .row-from .ensures) at (c .gather .ensures)))
+loop-again c = (
+  omega arith,
+  filled-more _ (omega arith) (c .before .before .before .loop .inv .1)
+      (rw (c .before .row-from .ensures) at (c .gather .ensures)),
+)
 
 returns : tie.Need-returns Inv-loop μ-loop
 returns c = filled-end (omega arith) (c .before .loop .inv .1)
 
 pub look-up-spec : {M : Type 1} → statement M
-look-up-spec =
-    tie.close
-    (tie.spec
-    Inv-loop
-    μ-loop
-    states-requires
-    rows-requires
-    loop-holds
-    row-from-requires
-    gather-requires
-    mul-words
-    slice-write-words
-    add-s
-    loop-less
-    loop-again
-    returns)
+look-up-spec = tie.close (tie.spec Inv-loop μ-loop states-requires rows-requires loop-holds row-from-requires
+    gather-requires mul-words slice-write-words add-s loop-less loop-again returns)

@@ -1,4 +1,3 @@
-use denote.Ref.{now}
 use Prim.Native.Nat.{_≤_, _-_}
 use mathlib.Core.Path.{_≡_, refl, sym, _∙_}
 use mathlib.Core.Logic.{⊎-elim}
@@ -22,7 +21,8 @@ unfolding any
 loop-holds c = (omega arith, refl)
 
 row-requires : tie.Need-row-requires Inv-loop μ-loop
-row-requires c κs = (c .before .before .before .before .pre .0, (c .before .before .before .before .pre .1, omega arith))
+row-requires c κs =
+    (c .before .before .before .before .pre .0, (c .before .before .before .before .pre .1, omega arith))
 
 add-s : tie.Need-add-s Inv-loop μ-loop
 add-s c = omega arith
@@ -44,4 +44,5 @@ returns : tie.Need-returns Inv-loop μ-loop
 returns c = enabled-all _ _ _ _ (omega arith) (c .before .loop .inv .1)
 
 pub enabled-spec : {M : Type 1} → statement M
-enabled-spec = tie.close (tie.spec Inv-loop μ-loop states-requires loop-holds row-requires add-s loop-less loop-again returns)
+enabled-spec = tie.close (tie.spec Inv-loop μ-loop states-requires loop-holds row-requires add-s loop-less loop-again
+    returns)

@@ -1,11 +1,13 @@
-use mathlib.Core.Path.{refl, sym, _∙_}
+use mathlib.Core.Path.{refl, sym}
+use denote.Ref.{now}
 use native.Mathlib.Omega.{arith}
+use borrow.Author.Needs.{needs}
 use Rattle.bounded.specs.Search.{first}
-use Rattle.restrictive.specs.Answers.{shows}
+use Rattle.part.specs.Record.{observing}
+use Rattle.restrictive.specs.Found.{found-of}
 use Rattle.restrictive.specs.Verdict.{rule-violation, first-violation}
 use Rattle.restrictive.proofs.Sameness.{no-events}
 use Rattle.restrictive.proofs.Scans.{found-first, nothing-more}
-use borrow.Author.Needs.{needs}
 use Rattle.restrictive.proofs.rules.first_violation.Statement.{statement}
 use Rattle.restrictive.proofs.rules.first_violation.Tie as tie
 
@@ -13,46 +15,43 @@ events-requires : tie.Need-events-requires
 events-requires c κs = search needs
 
 returns : tie.Need-returns
-unfolding shows
-returns c = sym (no-events _ (sym (c .before .events .ensures .0) ∙ c .if1 .taken))
+unfolding found-of
+returns c = let start = c .before .before .before .before in
+    sym (no-events _ (observing (start .args .observer) (now (start .args .column)))
+    (let m = c .before .events .ensures .0 in omega arith))
 
-spoken-requires : tie.Need-spoken-requires
-spoken-requires c κs = search needs
+concerned-requires : tie.Need-concerned-requires
+concerned-requires c κs = search needs
 
 array-read-rule-1 : tie.Need-array-read-rule-1
 array-read-rule-1 c = search needs
 
 rule-1-requires : tie.Need-rule-1-requires
-rule-1-requires c κs = (c .before .before .before .before .pre .0, (c .before .before .before .before .pre .1 .0, c .spoken .ensures 0 (omega arith)))
+rule-1-requires c κs = (c .before .before .before .before .before .pre, c .concerned .ensures 0 (omega arith))
 
 enum-told : tie.Need-enum-told
 enum-told c = search needs
 
 returns-2 : tie.Need-returns-2
 unfolding first-violation first
-returns-2 c = found-first (rule-violation _) 0 _ (c .before .before .rule-1 .ensures) refl 5 _ (c .enum-told .given .1) (omega arith)
+returns-2 c =
+    found-first (rule-violation _ _) 0 _ (c .before .before .rule-1 .ensures) refl 5 _ (c .enum-told .given .1)
+    (omega arith)
 
 enum-told-2 : tie.Need-enum-told-2
 enum-told-2 c = search needs
 
 rules-from-2-requires : tie.Need-rules-from-2-requires
 unfolding first
-rules-from-2-requires c κs = (c .before .before .before .before .before .before .before .before .pre .0, (c .before .before .before .before .before .before .before .before .pre .1, (c .before .before .before .before .spoken .ensures, nothing-more (rule-violation _) 0 _ (c .before .before .before .rule-1 .ensures) refl (c .before .enum-told2 .given .1))))
+rules-from-2-requires c κs =
+    let one = c .before .before .before in
+    let spoken = one .before in
+    let none = nothing-more (rule-violation _ _) 0 _ (one .rule-1 .ensures) refl (c .before .enum-told2 .given .1) in
+    (spoken .before .before .before .before .before .pre, (spoken .concerned .ensures, none))
 
 returns-3 : tie.Need-returns-3
 returns-3 c = search needs
 
 pub first-violation-spec : {M : Type 1} → statement M
-first-violation-spec =
-    tie.close
-    (tie.spec
-    events-requires
-    returns
-    spoken-requires
-    array-read-rule-1
-    rule-1-requires
-    enum-told
-    returns-2
-    enum-told-2
-    rules-from-2-requires
-    returns-3)
+first-violation-spec = tie.close (tie.spec events-requires returns concerned-requires array-read-rule-1 rule-1-requires
+    enum-told returns-2 enum-told-2 rules-from-2-requires returns-3)

@@ -1,32 +1,53 @@
-use mathlib.Core.Path.{sym, _∙_}
+use mathlib.Core.Path.{refl}
 use native.Mathlib.Omega.{arith}
 use borrow.Author.Needs.{needs}
 use Rattle.words.proofs.Sets.{without-less}
-use Rattle.restrictive.specs.Answers.{shows}
-use Rattle.restrictive.proofs.Turns.{Open, open-all, open-below, open-speaks, open-found, open-next, open-none}
+use Rattle.part.specs.Record.{observing}
+use Rattle.restrictive.specs.Found.{found-of}
+use denote.Ref.{now}
+use Rattle.restrictive.proofs.EventScans.{Open, Next, open-all, open-below, open-speaks}
+use Rattle.restrictive.proofs.EventScans.{open-found, open-next, open-none}
 use Rattle.restrictive.proofs.rules.rule_1.Statement.{statement}
 use Rattle.restrictive.proofs.rules.rule_1.Tie as tie
 
 abbrev Inv-loop : tie.InvT-loop
-Inv-loop b inputs rest₀ rest = Open b 0 inputs rest
+Inv-loop b observer column inputs rest₀ rest = Open b (observing observer column) 0 inputs rest
 
 abbrev μ-loop : tie.MeasureT-loop
-μ-loop b inputs rest₀ rest = rest
+μ-loop b observer column inputs rest₀ rest = rest
 
 loop-holds : tie.Need-loop-holds Inv-loop μ-loop
-loop-holds c = open-all _ _ _ (omega arith) (c .before .pre .1 .1) (c .before .fits .inputs .fits)
+loop-holds c =
+    let start = c .before .before in
+    open-all (record { last = omega arith; of = start .pre .1 }) (start .fits .inputs .fits)
 
 lowest-requires : tie.Need-lowest-requires Inv-loop μ-loop
 lowest-requires c κs = tt
 
-by-row-requires : tie.Need-by-row-requires Inv-loop μ-loop
-by-row-requires c κs = (c .before .before .before .before .pre .0, (c .before .before .before .before .pre .1 .0, (open-below _ _ _ (omega arith) (c .before .before .before .before .pre .1 .1) _ _ (c .before .before .loop .inv) (c .before .loop-test .taken) (c .lowest .ensures), open-speaks _ _ _ (omega arith) (c .before .before .before .before .pre .1 .1) _ _ (c .before .before .loop .inv) (c .before .loop-test .taken) (c .lowest .ensures))))
+-- the event that is looked at
+event : (c : tie.After-lowest Inv-loop μ-loop) → let a = c .before .before .before .before .before .args in
+    Next (now (a .b)) (observing (a .observer) (now (a .column))) 0 (a .inputs) (c .before .before .loop .rest)
+    (c .lowest .result)
+event c =
+    let loop = c .before .before in
+    record {
+      spoken = record { last = omega arith; of = loop .before .before .before .pre .1 };
+      left = loop .loop .inv;
+      some-left = c .before .loop-test .taken;
+      low = c .lowest .ensures;
+    }
+
+input-violation-requires : tie.Need-input-violation-requires Inv-loop μ-loop
+input-violation-requires c κs =
+    (c .before .before .before .before .before .pre .0, ((open-below (event c), refl), open-speaks (event c)))
 
 enum-told : tie.Need-enum-told Inv-loop μ-loop
 enum-told c = search needs
 
 returns : tie.Need-returns Inv-loop μ-loop
-returns c = open-found _ _ _ (omega arith) (c .before .before .before .before .before .before .before .pre .1 .1) _ _ (c .before .before .before .before .before .loop .inv) (c .before .before .before .before .loop-test .taken) (c .before .before .before .lowest .ensures) _ _ (c .before .before .by-row .ensures) (c .enum-told .given .1)
+returns c =
+    open-found (event (c .before .before .before)) _ _ (c .before .before .input-violation .ensures)
+    (c .enum-told .given .1)
 
 enum-told-2 : tie.Need-enum-told-2 Inv-loop μ-loop
 enum-told-2 c = search needs
@@ -35,28 +56,18 @@ drop-lowest-requires : tie.Need-drop-lowest-requires Inv-loop μ-loop
 drop-lowest-requires c κs = c .before .before .before .before .loop-test .taken
 
 loop-less : tie.Need-loop-less Inv-loop μ-loop
-loop-less c = rw (c .drop-lowest .ensures) (without-less _ _ (c .before .before .before .before .before .loop-test .taken))
+loop-less c =
+    rw (c .drop-lowest .ensures) (without-less _ _ (c .before .before .before .before .before .loop-test .taken))
 
 loop-again : tie.Need-loop-again Inv-loop μ-loop
-loop-again c = open-next _ _ _ (omega arith) (c .before .before .before .before .before .before .before .before .pre .1 .1) _ _ (c .before .before .before .before .before .before .loop .inv) (c .before .before .before .before .before .loop-test .taken) (c .before .before .before .before .lowest .ensures) _ _ (c .before .before .before .by-row .ensures) (c .before .enum-told2 .given .1) (c .drop-lowest .ensures)
+loop-again c =
+    open-next (event (c .before .before .before .before)) _ _ (c .before .before .before .input-violation .ensures)
+    (c .before .enum-told2 .given .1) (c .drop-lowest .ensures)
 
 returns-2 : tie.Need-returns-2 Inv-loop μ-loop
-unfolding shows
-returns-2 c = open-none _ _ _ (omega arith) (c .before .before .before .pre .1 .1) _ (c .before .loop .inv) (c .loop-test .left)
+unfolding found-of
+returns-2 c = open-none _ _ _ (c .before .loop .inv) (c .loop-test .left)
 
 pub rule-1-spec : {M : Type 1} → statement M
-rule-1-spec =
-    tie.close
-    (tie.spec
-    Inv-loop
-    μ-loop
-    loop-holds
-    lowest-requires
-    by-row-requires
-    enum-told
-    returns
-    enum-told-2
-    drop-lowest-requires
-    loop-less
-    loop-again
-    returns-2)
+rule-1-spec = tie.close (tie.spec Inv-loop μ-loop loop-holds lowest-requires input-violation-requires enum-told returns
+    enum-told-2 drop-lowest-requires loop-less loop-again returns-2)

@@ -1,29 +1,51 @@
-use denote.Ref.{now}
 use mathlib.Core.Path.{sym}
+use denote.Ref.{now}
 use native.Mathlib.Omega.{arith}
-use Rattle.restrictive.specs.Answers.{shows}
-use Rattle.restrictive.proofs.Answering.{reached-offers, agreed-permitted}
-use Rattle.restrictive.proofs.Sameness.{even-none, rule-none}
 use borrow.Author.Needs.{needs}
+use Rattle.part.specs.Record.{observing}
+use Rattle.restrictive.specs.Found.{found-of}
+use Rattle.restrictive.proofs.OfferArrays.{reached-offers, offered-permitted}
+use Rattle.restrictive.proofs.Sameness.{equal-none, rule-none}
 use Rattle.restrictive.proofs.rules.rule_4.Statement.{statement}
 use Rattle.restrictive.proofs.rules.rule_4.Tie as tie
 
-even-requires : tie.Need-even-requires
-even-requires c κs = search needs
+classwise-equal-requires : tie.Need-classwise-equal-requires
+classwise-equal-requires c κs = search needs
 
 returns : tie.Need-returns
-unfolding shows
-returns c = sym (rule-none _ _ (omega arith) (λ i h speaks. even-none _ _ i (omega arith) (omega arith) h (now (c .before .before .before .before .args .met)) speaks (reached-offers _ (now (c .before .before .before .before .args .met)) (c .before .before .before .before .pre .1 .1 .1) i) (c .before .even .ensures .0 (c .if1 .taken))))
+unfolding found-of
+returns c =
+    let start = c .before .before .before .before .before in
+    let o = observing (start .args .observer) (now (start .args .column)) in
+    let met = now (start .args .met) in
+    let equal = rw (start .pre .0 .sized) at (c .before .classwise-equal .ensures .0 (c .if1 .taken)) in
+    sym (rule-none _ o _ (omega arith) (λ i h speaks.
+    equal-none _ o _ i (omega arith) (omega arith) h met speaks (reached-offers _ o met (start .pre .1 .1) i) equal))
 
-put-agreed-requires : tie.Need-put-agreed-requires
-put-agreed-requires c κs = search needs
+put-offered-states-requires : tie.Need-put-offered-states-requires
+put-offered-states-requires c κs = search needs
 
-by-fixed-requires : tie.Need-by-fixed-requires
-by-fixed-requires c κs = (c .before .before .before .before .before .before .before .pre .0, (c .before .before .before .before .before .before .before .pre .1 .0, ((omega arith, omega arith), (c .before .before .before .before .before .before .before .pre .1 .1 .0, (λ i. agreed-permitted _ _ i (now (c .before .before .before .before .before .before .before .args .met)) (c .before .put-agreed .last .0) (reached-offers _ (now (c .before .before .before .before .before .before .before .args .met)) (c .before .before .before .before .before .before .before .pre .1 .1 .1) i) (c .before .put-agreed .ensures), λ two i. reached-offers _ (now (c .before .before .before .before .before .before .before .args .met)) (c .before .before .before .before .before .before .before .pre .1 .1 .1) i)))))
+same-for-events-requires : tie.Need-same-for-events-requires
+same-for-events-requires c κs =
+    let start = c .before .before .before .before .before .before .before .before in
+    let o = observing (start .args .observer) (now (start .args .column)) in
+    let met = now (start .args .met) in
+    let offers = reached-offers _ o met (start .pre .1 .1) in
+    let put = c .before .put-offered-states in
+    let made = rw (start .pre .0 .sized) at (put .ensures) in (
+      start .pre .0,
+      (
+        (omega arith, omega arith),
+        (
+          start .pre .1 .0,
+          (λ i. offered-permitted _ o _ i _ (put .last .0) (offers i) (made .words), λ h i. offers i),
+        ),
+      ),
+    )
 
 returns-2 : tie.Need-returns-2
 returns-2 c = search needs
 
 pub rule-4-spec : {M : Type 1} → statement M
-rule-4-spec =
-    tie.close (tie.spec even-requires returns put-agreed-requires by-fixed-requires returns-2)
+rule-4-spec = tie.close (tie.spec classwise-equal-requires returns put-offered-states-requires same-for-events-requires
+    returns-2)

@@ -1,77 +1,61 @@
 use mathlib.Core.Path.{refl}
 use native.Mathlib.Omega.{arith}
-use Rattle.bounded.proofs.Search.{true-not-false, first-more}
-use Rattle.restrictive.specs.Verdict.{rule-violation, first-violation}
-use Rattle.restrictive.proofs.Answering.{direct-led, direct-alone}
-use Rattle.restrictive.proofs.Sameness.{unspoken}
-use Rattle.restrictive.proofs.Scans.{found-first, nothing-more, found-last}
 use borrow.Author.Needs.{needs}
+use Rattle.bounded.proofs.Search.{true-not-false}
+use Rattle.restrictive.specs.Verdict.{first-violation}
+use Rattle.restrictive.proofs.OfferArrays.{direct-led}
+use Rattle.restrictive.proofs.Scans.{found-first, nothing-more}
 use Rattle.restrictive.proofs.rules.rules_from_3.Statement.{statement}
 use Rattle.restrictive.proofs.rules.rules_from_3.Tie as tie
 
-own-requires : tie.Need-own-requires
-own-requires c κs = search needs
+class-of-requires : tie.Need-class-of-requires
+class-of-requires c κs = search needs
 
-element-copy-out-by-event : tie.Need-element-copy-out-by-event
-element-copy-out-by-event c = search needs
+element-copy-out-inputs : tie.Need-element-copy-out-inputs
+element-copy-out-inputs c = search needs
 
 by-event-requires : tie.Need-by-event-requires
 by-event-requires c κs =
-    let pre = c .before .before .before .before .before .before .before .pre in
-    let own = c .before .before .before .before .before .own in
-    (pre .0, (pre .1 .0 .1, ((omega arith, omega arith), (pre .1 .1 .0 2 (omega arith), (λ e. direct-led _ (pre .0) (pre .1 .0 .0) (own .result) (own .ensures), λ e. absurd (true-not-false e refl))))))
+    let start = c .before .before .before .before .before .before .before .before in
+    let sound = start .pre .0 in
+    let labels = c .before .before .before .before .before .class-of in
+    let led =
+    direct-led _ _ (sound .framed) (sound .within)
+    (labels .result) (rw (sound .sized) at (labels .ensures)) in (
+      sound,
+      (
+        (omega arith, omega arith),
+        (start .pre .1 .0 2 (omega arith), (λ e. led, λ e. absurd (true-not-false e refl))),
+      ),
+    )
 
 enum-told : tie.Need-enum-told
 enum-told c = search needs
 
 returns : tie.Need-returns
 unfolding first-violation
-returns c = let pre = c .before .before .before .before .before .before .before .before .before .before .pre in found-first (rule-violation _) 2 _ (c .before .before .by-event .ensures) (pre .1 .1 .1) 5 _ (c .enum-told .given .1) (omega arith)
+returns c =
+    let three = c .before .before in
+    found-first _ 2 _ (three .by-event .ensures)
+    (three .before .before .before .before .before .before .before .before .before .pre .1 .1) 5 _
+    (c .enum-told .given .1)
+    (omega arith)
 
 enum-told-2 : tie.Need-enum-told-2
 enum-told-2 c = search needs
 
-element-copy-out-if1 : tie.Need-element-copy-out-if1
-element-copy-out-if1 c = search needs
-
-element-copy-out-by-event-2 : tie.Need-element-copy-out-by-event-2
-element-copy-out-by-event-2 c = search needs
-
-by-event-requires-2 : tie.Need-by-event-requires-2
-by-event-requires-2 c κs =
-    let pre = c .before .before .before .before .before .before .before .before .before .before .before .before .before .before .before .before .before .pre in
-    let own = c .before .before .before .before .before .before .before .before .before .before .before .before .before .before .before .own in
-    (pre .0, (pre .1 .0 .1, ((omega arith, omega arith), (pre .1 .1 .0 4 (omega arith), (λ e. direct-alone _ (pre .0) (pre .1 .0 .0) _ (pre .1 .1 .0 3 (omega arith)) (c .before .before .before .before .before .if1 .taken) (own .result) (own .ensures), λ e. absurd (true-not-false e refl))))))
+rules-from-4-requires : tie.Need-rules-from-4-requires
+rules-from-4-requires c κs =
+    let told = c .before .before .before in
+    let three = told .before .before in
+    let made = three .before .before .before .before .before .before in
+    let pre = made .before .before .before .pre in
+    let none = nothing-more _ 2 _ (three .by-event .ensures) (pre .1 .1) (told .enum-told2 .given .1) in
+    (pre .0, (pre .1 .0, (made .class-of .ensures, none)))
 
 returns-2 : tie.Need-returns-2
-unfolding first-violation
-returns-2 c =
-    let pre = c .before .before .before .before .before .before .before .before .before .before .before .before .before .before .before .before .before .before .pre in
-    let none-3 = nothing-more (rule-violation _) 2 _ (c .before .before .before .before .before .before .before .before .before .before .by-event .ensures) (pre .1 .1 .1) (c .before .before .before .before .before .before .before .before .enum-told2 .given .1) in
-    found-last (rule-violation _) 4 _ (c .by-event2 .ensures) (first-more (rule-violation _) 3 none-3 (unspoken _ 3 _ (omega arith) (pre .1 .1 .0 3 (omega arith)) (c .before .before .before .before .before .before .if1 .taken)))
-
-with-silent-requires : tie.Need-with-silent-requires
-with-silent-requires c κs =
-    let pre = c .before .before .before .before .before .before .before .before .before .before .before .before .before .before .before .pre in
-    let none-3 = nothing-more (rule-violation _) 2 _ (c .before .before .before .before .before .before .before .by-event .ensures) (pre .1 .1 .1) (c .before .before .before .before .before .enum-told2 .given .1) in
-    (pre .0, (pre .1 .0, (pre .1 .1 .0, (c .before .before .before .before .before .before .before .before .before .before .before .before .before .own .ensures, none-3))))
-
-returns-3 : tie.Need-returns-3
-returns-3 c = search needs
+returns-2 c = search needs
 
 pub rules-from-3-spec : {M : Type 1} → statement M
-rules-from-3-spec =
-    tie.close
-    (tie.spec
-    own-requires
-    element-copy-out-by-event
-    by-event-requires
-    enum-told
-    returns
-    enum-told-2
-    element-copy-out-if1
-    element-copy-out-by-event-2
-    by-event-requires-2
-    returns-2
-    with-silent-requires
-    returns-3)
+rules-from-3-spec = tie.close (tie.spec class-of-requires element-copy-out-inputs by-event-requires enum-told returns
+    enum-told-2 rules-from-4-requires returns-2)

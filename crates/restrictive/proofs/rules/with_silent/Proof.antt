@@ -1,38 +1,63 @@
-use denote.Ref.{now}
 use mathlib.Core.Path.{refl}
+use denote.Ref.{now}
 use native.Mathlib.Omega.{arith}
-use Rattle.bounded.proofs.Search.{true-not-false}
-use Rattle.restrictive.specs.Verdict.{rule-violation, first-violation}
-use Rattle.restrictive.proofs.Answering.{reached-classes, around-offers}
-use Rattle.restrictive.proofs.Scans.{found-first, nothing-more, found-last}
 use borrow.Author.Needs.{needs}
+use Rattle.bounded.proofs.Search.{true-not-false}
+use Rattle.words.specs.Sets.{Rows}
+use Rattle.words.proofs.Arrays.{filled-end}
+use Rattle.part.specs.Record.{states, observing}
+use Rattle.relations.specs.Relations.{reach-for}
+use Rattle.restrictive.specs.Sets.{reached}
+use Rattle.restrictive.specs.Verdict.{first-violation}
+use Rattle.restrictive.proofs.OfferArrays.{closure-reach, reached-classes, around-offers}
+use Rattle.restrictive.proofs.Scans.{found-first, nothing-more, found-last}
 use Rattle.restrictive.proofs.rules.with_silent.Statement.{statement}
 use Rattle.restrictive.proofs.rules.with_silent.Tie as tie
 
-element-copy-out-closure : tie.Need-element-copy-out-closure
-element-copy-out-closure c = search needs
+element-copy-out-silent : tie.Need-element-copy-out-silent
+element-copy-out-silent c = search needs
 
 closure-requires : tie.Need-closure-requires
-closure-requires c κs = (c .before .before .pre .0, c .before .before .pre .1 .1 .0 3 (omega arith))
-
-states-requires : tie.Need-states-requires
-states-requires c κs = search needs
+closure-requires c κs = search needs
 
 gather-each-requires : tie.Need-gather-each-requires
 gather-each-requires c κs = search needs
 
-element-copy-out-rule-4 : tie.Need-element-copy-out-rule-4
-element-copy-out-rule-4 c = search needs
+-- the closure is the silent one, and its classes are those that silent steps lead to
+closed : (c : tie.After-closure) → let start = c .before .before .before .before in
+    Rows (states (now (start .args .b))) (c .closure .result) (reach-for (now (start .args .b)) (start .args .observer))
+closed c =
+    let pre = c .before .before .before .before .pre in
+    closure-reach _ _ _ (c .closure .result) (pre .1 .0 3 (omega arith)) (c .closure .ensures .words)
+
+meets : (c : tie.After-gather-each) → let start = c .before .before .before .before .before .before in
+    Rows (states (now (start .args .b))) (c .gather-each .result)
+    (reached (now (start .args .b)) (observing (start .args .observer) (now (start .args .column))))
+meets c =
+    let start = c .before .before .before .before .before .before in
+    let sound = start .pre .0 in
+    reached-classes _ _ (sound .framed) (sound .within)
+    (c .before .before .closure .result) (now (start .args .labels)) (c .gather-each .result)
+    (closed (c .before .before)) (rw (sound .sized) at (start .pre .1 .1 .0))
+    (filled-end (sound .sized) (c .gather-each .ensures) .words)
 
 rule-4-requires : tie.Need-rule-4-requires
-rule-4-requires c κs = (c .before .before .before .before .before .before .before .before .before .pre .0, (c .before .before .before .before .before .before .before .before .before .pre .1 .0 .1, (c .before .before .before .before .before .before .before .before .before .pre .1 .1 .0 3 (omega arith), reached-classes _ (c .before .before .before .before .before .before .before .before .before .pre .0) (c .before .before .before .before .before .before .before .before .before .pre .1 .0 .0) (c .before .before .before .before .before .before .closure .result) (now (c .before .before .before .before .before .before .before .before .before .args .own)) (c .before .before .before .gather-each .result) (c .before .before .before .before .before .before .closure .ensures) (c .before .before .before .before .before .before .before .before .before .pre .1 .1 .1 .0) (λ u l. let n = c .before .before .before .before .before .states .ensures .0 in c .before .before .before .gather-each .ensures .words u (omega arith)))))
+rule-4-requires c κs =
+    let made = c .before .before in
+    let pre = made .before .before .before .before .before .before .pre in
+    (pre .0, (pre .1 .0 3 (omega arith), meets made))
 
 enum-told : tie.Need-enum-told
 enum-told c = search needs
 
 returns : tie.Need-returns
 unfolding first-violation
-returns c = found-first (rule-violation _) 3 _ (c .before .before .rule-4 .ensures) (c .before .before .before .before .before .before .before .before .before .before .before .before .pre .1 .1 .1 .1) 5 _ (c .enum-told .given .1) (omega arith)
+returns c =
+    let four = c .before .before in
+    found-first _ 3 _ (four .rule-4 .ensures)
+    (four .before .before .before .before .before .before .before .before .before .pre .1 .1 .1) 5 _
+    (c .enum-told .given .1)
+    (omega arith)
 
 enum-told-2 : tie.Need-enum-told-2
 enum-told-2 c = search needs
@@ -41,25 +66,31 @@ element-copy-out-by-event : tie.Need-element-copy-out-by-event
 element-copy-out-by-event c = search needs
 
 by-event-requires : tie.Need-by-event-requires
-by-event-requires c κs = (c .before .before .before .before .before .before .before .before .before .before .before .before .before .before .before .before .before .pre .0, (c .before .before .before .before .before .before .before .before .before .before .before .before .before .before .before .before .before .pre .1 .0 .1, ((omega arith, omega arith), (c .before .before .before .before .before .before .before .before .before .before .before .before .before .before .before .before .before .pre .1 .1 .0 4 (omega arith), (λ e. absurd (true-not-false refl e), λ e. around-offers _ (c .before .before .before .before .before .before .before .before .before .before .before .before .before .before .before .before .before .pre .0) (c .before .before .before .before .before .before .before .before .before .before .before .before .before .before .before .before .before .pre .1 .0 .0) (c .before .before .before .before .before .before .before .before .before .before .before .before .before .before .closure .result) (c .before .before .before .before .before .before .before .before .before .before .before .gather-each .result) (c .before .before .before .before .before .before .before .before .before .before .before .before .before .before .closure .ensures) (reached-classes _ (c .before .before .before .before .before .before .before .before .before .before .before .before .before .before .before .before .before .pre .0) (c .before .before .before .before .before .before .before .before .before .before .before .before .before .before .before .before .before .pre .1 .0 .0) (c .before .before .before .before .before .before .before .before .before .before .before .before .before .before .closure .result) (now (c .before .before .before .before .before .before .before .before .before .before .before .before .before .before .before .before .before .args .own)) (c .before .before .before .before .before .before .before .before .before .before .before .gather-each .result) (c .before .before .before .before .before .before .before .before .before .before .before .before .before .before .closure .ensures) (c .before .before .before .before .before .before .before .before .before .before .before .before .before .before .before .before .before .pre .1 .1 .1 .0) (λ u l. let n = c .before .before .before .before .before .before .before .before .before .before .before .before .before .states .ensures .0 in c .before .before .before .before .before .before .before .before .before .before .before .gather-each .ensures .words u (omega arith))))))))
+by-event-requires c κs =
+    let made = c .before .before .before .before .before .before .before .before .before .before in
+    let start = made .before .before .before .before .before .before in
+    let sound = start .pre .0 in
+    let silently =
+    around-offers _ _ (sound .framed) (sound .within)
+    (made .before .before .closure .result) (made .gather-each .result) (closed (made .before .before))
+    (meets made) in (
+      sound,
+      (
+        (omega arith, omega arith),
+        (start .pre .1 .0 4 (omega arith), (λ e. absurd (true-not-false refl e), λ e. silently)),
+      ),
+    )
 
 returns-2 : tie.Need-returns-2
 unfolding first-violation
-returns-2 c = found-last (rule-violation _) 4 _ (c .by-event .ensures) (nothing-more (rule-violation _) 3 _ (c .before .before .before .before .before .before .before .before .rule-4 .ensures) (c .before .before .before .before .before .before .before .before .before .before .before .before .before .before .before .before .before .before .pre .1 .1 .1 .1) (c .before .before .before .before .before .before .enum-told2 .given .1))
+returns-2 c =
+    let told = c .before .before .before .before .before .before in
+    let four = told .before .before in
+    found-last _ 4 _ (c .by-event .ensures)
+    (nothing-more _ 3 _ (four .rule-4 .ensures)
+    (four .before .before .before .before .before .before .before .before .before .pre .1 .1 .1)
+    (told .enum-told2 .given .1))
 
 pub with-silent-spec : {M : Type 1} → statement M
-with-silent-spec =
-    tie.close
-    (tie.spec
-    element-copy-out-closure
-    closure-requires
-    states-requires
-    gather-each-requires
-    element-copy-out-rule-4
-    rule-4-requires
-    enum-told
-    returns
-    enum-told-2
-    element-copy-out-by-event
-    by-event-requires
-    returns-2)
+with-silent-spec = tie.close (tie.spec element-copy-out-silent closure-requires gather-each-requires rule-4-requires
+    enum-told returns enum-told-2 element-copy-out-by-event by-event-requires returns-2)

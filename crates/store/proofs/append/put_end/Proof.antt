@@ -1,5 +1,5 @@
 use borrow.Author.Needs.{needs}
-use Rattle.store.proofs.Appending.{end-laid}
+use Rattle.store.proofs.Appends.{end-laid}
 use Rattle.store.proofs.append.put_end.Statement.{statement}
 use Rattle.store.proofs.append.put_end.Tie as tie
 

@@ -1,7 +1,7 @@
 use mathlib.Core.Path.{_∙_}
 use native.Mathlib.Omega.{arith}
 use borrow.Author.Needs.{needs}
-use Rattle.words.proofs.Laying.{over-start}
+use Rattle.words.proofs.LaidLaws.{over-start}
 use Rattle.words.proofs.Arrays.{padded-over}
 use Rattle.store.proofs.call.copied.Statement.{statement}
 use Rattle.store.proofs.call.copied.Tie as tie

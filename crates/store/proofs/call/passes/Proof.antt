@@ -1,6 +1,6 @@
 use mathlib.Core.Path.{sym, ap, _∙_}
 use borrow.Author.Needs.{needs}
-use Rattle.restrictive.specs.Answers.{means}
+use Rattle.restrictive.specs.Answers.{verdict-of}
 use Rattle.store.specs.Calls.{passes}
 use Rattle.store.proofs.call.passes.Statement.{statement}
 use Rattle.store.proofs.call.passes.Tie as tie
@@ -18,16 +18,16 @@ enum-told-3 : tie.Need-enum-told-3
 enum-told-3 c = search needs
 
 returns : tie.Need-returns
-unfolding passes means
-returns c = rw (sym (c .before .before .check .ensures) ∙ ap means (c .enum-told .given .1), passes)
+unfolding passes verdict-of
+returns c = rw (sym (c .before .before .check .ensures) ∙ ap verdict-of (c .enum-told .given .1), passes)
 
 returns-2 : tie.Need-returns-2
-unfolding passes means
-returns-2 c = rw (sym (c .before .before .check .ensures) ∙ ap means (c .enum-told2 .given .1), passes)
+unfolding passes verdict-of
+returns-2 c = rw (sym (c .before .before .check .ensures) ∙ ap verdict-of (c .enum-told2 .given .1), passes)
 
 returns-3 : tie.Need-returns-3
-unfolding passes means
-returns-3 c = rw (sym (c .before .before .check .ensures) ∙ ap means (c .enum-told3 .given .1), passes)
+unfolding passes verdict-of
+returns-3 c = rw (sym (c .before .before .check .ensures) ∙ ap verdict-of (c .enum-told3 .given .1), passes)
 
 pub passes-spec : {M : Type 1} → statement M
 passes-spec =

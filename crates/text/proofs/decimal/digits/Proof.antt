@@ -26,7 +26,13 @@ loop-again : tie.Need-loop-again Inv-loop μ-loop
 loop-again c = omega (arith, length-more (c .before .loop .rest) (omega arith))
 
 returns : tie.Need-returns Inv-loop μ-loop
-returns c = omega (arith, length-one (c .before .loop .rest) (omega arith), length-word (c .before .before .args .n) (omega arith))
+returns c =
+    omega (
+      arith,
+      length-one (c .before .loop .rest) (omega arith),
+      length-word (c .before .before .args .n)
+          (omega arith),
+    )
 
 pub digits-spec : {M : Type 1} → statement M
 digits-spec =

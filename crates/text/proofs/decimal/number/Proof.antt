@@ -38,7 +38,13 @@ slice-write-out : tie.Need-slice-write-out Inv-loop μ-loop
 slice-write-out c = omega arith
 
 sub-i-2 : tie.Need-sub-i-2 Inv-loop μ-loop
-sub-i-2 c = omega (arith, length-more (c .before .before .loop .rest) (omega arith), length-some (c .before .before .loop .rest / 10))
+sub-i-2 c =
+    omega (
+      arith,
+      length-more (c .before .before .loop .rest) (omega arith),
+      length-some
+          (c .before .before .loop .rest / 10),
+    )
 
 loop-less : tie.Need-loop-less Inv-loop μ-loop
 loop-less c = omega arith
@@ -82,19 +88,5 @@ returns c =
 pub number-spec : {M : Type 1} → statement M
 number-spec =
     tie.close
-    (tie.spec
-    Inv-loop
-    μ-loop
-    digits-requires
-    add-end
-    sub-i
-    loop-holds
-    last-digit-requires
-    slice-write-out
-    sub-i-2
-    loop-less
-    loop-again
-    last-digit-requires-2
-    slice-write-out-2
-    same-length
-    returns)
+    (tie.spec Inv-loop μ-loop digits-requires add-end sub-i loop-holds last-digit-requires slice-write-out sub-i-2
+    loop-less loop-again last-digit-requires-2 slice-write-out-2 same-length returns)

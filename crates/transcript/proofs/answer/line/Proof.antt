@@ -1,6 +1,6 @@
 use borrow.Author.Needs.{needs}
 use Rattle.report.specs.Line.{line}
-use Rattle.store.specs.Answers.{says}
+use Rattle.store.specs.Answers.{answer-of}
 use Rattle.transcript.specs.Lines.{answer-line}
 use Rattle.transcript.proofs.answer.line.Statement.{statement}
 use Rattle.transcript.proofs.answer.line.Tie as tie
@@ -39,28 +39,30 @@ same-length : tie.Need-same-length
 same-length c = search needs
 
 returns : tie.Need-returns
-unfolding answer-line line says
+unfolding answer-line line answer-of
 returns c = rw (c .before .before .before .before .before .a .given .1) (c .before .before .numbered .ensures)
 
 same-length-2 : tie.Need-same-length-2
 same-length-2 c = search needs
 
 returns-2 : tie.Need-returns-2
-unfolding answer-line line says
-returns-2 c = rw (c .before .before .before .before .before .before .a2 .given .1) (c .before .before .numbered2 .ensures)
+unfolding answer-line line answer-of
+returns-2 c =
+    rw (c .before .before .before .before .before .before .a2 .given .1) (c .before .before .numbered2 .ensures)
 
 same-length-3 : tie.Need-same-length-3
 same-length-3 c = search needs
 
 returns-3 : tie.Need-returns-3
-unfolding answer-line line says
-returns-3 c = rw (c .before .before .before .before .before .before .a3 .given .1) (c .before .before .numbered3 .ensures)
+unfolding answer-line line answer-of
+returns-3 c =
+    rw (c .before .before .before .before .before .before .a3 .given .1) (c .before .before .numbered3 .ensures)
 
 same-length-4 : tie.Need-same-length-4
 same-length-4 c = search needs
 
 returns-4 : tie.Need-returns-4
-unfolding answer-line line says
+unfolding answer-line line answer-of
 returns-4 c = rw (c .before .before .before .before .before .a4 .given .1) (c .before .before .violation .ensures)
 
 pub line-spec : {M : Type 1} → statement M

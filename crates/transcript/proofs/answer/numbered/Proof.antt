@@ -1,6 +1,6 @@
 use native.Mathlib.Omega.{arith}
 use borrow.Author.Needs.{needs}
-use Rattle.words.proofs.Laying.{then, laid-start}
+use Rattle.words.proofs.LaidLaws.{then, laid-start}
 use Rattle.transcript.proofs.answer.numbered.Statement.{statement}
 use Rattle.transcript.proofs.answer.numbered.Tie as tie
 

@@ -1,8 +1,8 @@
 use native.Mathlib.Omega.{arith}
 use borrow.Author.Needs.{needs}
-use Rattle.words.proofs.Laying.{then, laid-start}
+use Rattle.words.proofs.LaidLaws.{then, laid-start}
 use Rattle.transcript.specs.Lines.{part-line}
-use Rattle.transcript.proofs.Showing.{length-shown, laid-length}
+use Rattle.transcript.proofs.Lines.{length-shown, laid-length}
 use Rattle.transcript.proofs.contents.part.Statement.{statement}
 use Rattle.transcript.proofs.contents.part.Tie as tie
 
@@ -20,9 +20,11 @@ slice-aggregate-lay c = search needs
 
 lay-requires : tie.Need-lay-requires
 lay-requires c κs =
-    let head = c .before .before .before .before .before .before .before .before .labelled .ensures in
+    let labelled = c .before .before .before .before .before .before .before .before in
+    let head = labelled .labelled .ensures in
     let bytes = c .before .before .before .before .show .ensures in
-    omega (arith, head .1, laid-length (head .0), bytes .behind, laid-length bytes, length-shown (c .before .before .before .before .before .before .before .before .before .before .before .before .before .args .bytes .now))
+    let size = length-shown (labelled .before .before .before .before .before .args .bytes .now) in
+    omega (arith, head .1, laid-length (head .0), bytes .behind, laid-length bytes, size)
 
 same-length : tie.Need-same-length
 same-length c = search needs
@@ -30,10 +32,12 @@ same-length c = search needs
 returns : tie.Need-returns
 unfolding part-line
 returns c =
-    let head = c .before .before .before .before .before .before .before .before .before .before .before .labelled .ensures in
+    let labelled = c .before .before .before .before .before .before .before .before .before .before .before in
+    let head = labelled .labelled .ensures in
     let bytes = c .before .before .before .before .before .before .before .show .ensures in
-    laid-start (then (then (head .0) bytes) (c .before .before .lay .ensures))
-    (omega (arith, head .1, bytes .behind, length-shown (c .before .before .before .before .before .before .before .before .before .before .before .before .before .before .before .before .args .bytes .now), c .before .before .lay .ensures .behind))
+    let end = c .before .before .lay .ensures in
+    let size = length-shown (labelled .before .before .before .before .before .args .bytes .now) in
+    laid-start (then (then (head .0) bytes) end) (omega (arith, head .1, bytes .behind, size, end .behind))
 
 pub part-spec : {M : Type 1} → statement M
 part-spec =

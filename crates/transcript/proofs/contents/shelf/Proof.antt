@@ -1,9 +1,9 @@
 use native.Mathlib.Omega.{arith}
 use borrow.Author.Needs.{needs}
-use Rattle.words.proofs.Laying.{then, laid-start}
-use Rattle.text.proofs.Hexing.{length-hex}
+use Rattle.words.proofs.LaidLaws.{then, laid-start}
+use Rattle.text.proofs.HexLaws.{length-hex}
 use Rattle.transcript.specs.Lines.{shelf-line}
-use Rattle.transcript.proofs.Showing.{laid-length}
+use Rattle.transcript.proofs.Lines.{laid-length}
 use Rattle.transcript.proofs.contents.shelf.Statement.{statement}
 use Rattle.transcript.proofs.contents.shelf.Tie as tie
 
@@ -21,9 +21,11 @@ slice-aggregate-lay-2 c = search needs
 
 lay-requires-2 : tie.Need-lay-requires-2
 lay-requires-2 c κs =
-    let head = c .before .before .before .before .before .before .before .before .lay .ensures in
+    let laid = c .before .before .before .before .before .before .before .before in
+    let head = laid .lay .ensures in
     let bytes = c .before .before .before .before .hex .ensures in
-    omega (arith, head .behind, laid-length head, bytes .behind, laid-length bytes, length-hex (c .before .before .before .before .before .before .before .before .before .before .before .before .before .args .bytes .now))
+    let size = length-hex (laid .before .before .before .before .before .args .bytes .now) in
+    omega (arith, head .behind, laid-length head, bytes .behind, laid-length bytes, size)
 
 same-length : tie.Need-same-length
 same-length c = search needs
@@ -31,10 +33,12 @@ same-length c = search needs
 returns : tie.Need-returns
 unfolding shelf-line
 returns c =
-    let head = c .before .before .before .before .before .before .before .before .before .before .before .lay .ensures in
+    let laid = c .before .before .before .before .before .before .before .before .before .before .before in
+    let head = laid .lay .ensures in
     let bytes = c .before .before .before .before .before .before .before .hex .ensures in
-    laid-start (then (then head bytes) (c .before .before .lay2 .ensures))
-    (omega (arith, head .behind, bytes .behind, length-hex (c .before .before .before .before .before .before .before .before .before .before .before .before .before .before .before .before .args .bytes .now), c .before .before .lay2 .ensures .behind))
+    let end = c .before .before .lay2 .ensures in
+    let size = length-hex (laid .before .before .before .before .before .args .bytes .now) in
+    laid-start (then (then head bytes) end) (omega (arith, head .behind, bytes .behind, size, end .behind))
 
 pub shelf-spec : {M : Type 1} → statement M
 shelf-spec =

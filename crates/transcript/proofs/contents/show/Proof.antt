@@ -1,7 +1,7 @@
 use native.Mathlib.Omega.{arith}
 use borrow.Author.Needs.{needs}
-use Rattle.words.proofs.Laying.{over-nothing, then}
-use Rattle.transcript.proofs.Showing.{shown-none, shown-some}
+use Rattle.words.proofs.LaidLaws.{over-nothing, then}
+use Rattle.transcript.proofs.Lines.{shown-none, shown-some}
 use Rattle.transcript.proofs.contents.show.Statement.{statement}
 use Rattle.transcript.proofs.contents.show.Tie as tie
 
@@ -25,8 +25,9 @@ same-length c = search needs
 
 returns-2 : tie.Need-returns-2
 returns-2 c =
-    let bytes = c .before .before .before .before .before .before .before .before .before .before .before .before .args .bytes .now in
-    rw (← shown-some bytes (omega arith)) (then (c .before .before .before .before .before .before .lay .ensures) (c .before .before .hex .ensures))
+    let laid = c .before .before .before .before .before .before in
+    rw (← shown-some (laid .before .before .before .before .before .before .args .bytes .now) (omega arith))
+    (then (laid .lay .ensures) (c .before .before .hex .ensures))
 
 pub show-spec : {M : Type 1} → statement M
 show-spec =

@@ -4,13 +4,14 @@ use native.Mathlib.Nat.{add-zero}
 use native.Mathlib.Omega.{arith}
 use lib.ListN.{length, drop, length-set}
 use Rattle.words.specs.Laid.{over}
-use Rattle.words.proofs.Laying.{word-turn, word-end}
+use Rattle.words.proofs.LaidLaws.{word-turn, word-end}
 use Rattle.words.proofs.copy.lay.Statement.{statement}
 use Rattle.words.proofs.copy.lay.Tie as tie
 
 -- Laying the bytes that are left gives what laying them all at the start does.
 abbrev Inv-loop : tie.InvT-loop
-Inv-loop bytes out₀ at i₀ out i = (i ≤ length bytes) × (length out ≡ length out₀) × (over out (at + i) (drop i bytes) ≡ over out₀ at bytes)
+Inv-loop bytes out₀ at i₀ out i =
+    (i ≤ length bytes) × (length out ≡ length out₀) × (over out (at + i) (drop i bytes) ≡ over out₀ at bytes)
 
 abbrev μ-loop : tie.MeasureT-loop
 μ-loop bytes out₀ at i₀ out i = length bytes - i
@@ -39,7 +40,7 @@ loop-again c =
     let a = c .before .before .before .args in (
       omega arith,
       length-set (l .out) _ _ ∙ l .inv .1,
-      word-turn (l .out) (a .bytes .now) (a .at) (l .i) (omega arith) ∙ l .inv .2,
+      word-turn _ _ _ _ (omega arith) ∙ l .inv .2,
     )
 
 add-result : tie.Need-add-result Inv-loop μ-loop
@@ -52,21 +53,8 @@ returns : tie.Need-returns Inv-loop μ-loop
 returns c =
     let l = c .before .loop in
     let a = c .before .before .args in
-    record { text = sym (word-end (l .out) (a .bytes .now) (a .at) (l .i) (omega arith)) ∙ l .inv .2; behind = refl }
+    record { text = sym (word-end _ _ _ _ (omega arith)) ∙ l .inv .2; behind = refl }
 
 pub lay-spec : {M : Type 1} → statement M
-lay-spec =
-    tie.close
-    (tie.spec
-    Inv-loop
-    μ-loop
-    loop-holds
-    shared-slice-read-out
-    add-out
-    slice-write-out
-    add-i
-    loop-less
-    loop-again
-    add-result
-    same-length
-    returns)
+lay-spec = tie.close (tie.spec Inv-loop μ-loop loop-holds shared-slice-read-out add-out slice-write-out add-i loop-less
+    loop-again add-result same-length returns)

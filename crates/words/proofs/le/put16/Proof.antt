@@ -31,6 +31,4 @@ unfolding over digits
 returns c = rw add-one
 
 pub put16-spec : {M : Type 1} → statement M
-put16-spec =
-    tie.close
-    (tie.spec cast-out slice-write-out cast-out-2 add-out slice-write-out-2 same-length returns)
+put16-spec = tie.close (tie.spec cast-out slice-write-out cast-out-2 add-out slice-write-out-2 same-length returns)

@@ -23,8 +23,8 @@ add-result c = search needs
 
 returns : tie.Need-returns
 unfolding number
-returns c = omega (arith, number-split 1 1 (now (c .before .before .before .args .s)) (c .before .before .before .args .at))
+returns c =
+    omega (arith, number-split 1 1 (now (c .before .before .before .args .s)) (c .before .before .before .args .at))
 
 pub u16-at-spec : {M : Type 1} → statement M
-u16-at-spec =
-    tie.close (tie.spec u8-at-requires add-u8-at u8-at-requires-2 mul-result add-result returns)
+u16-at-spec = tie.close (tie.spec u8-at-requires add-u8-at u8-at-requires-2 mul-result add-result returns)

@@ -21,8 +21,8 @@ add-result : tie.Need-add-result
 add-result c = search needs
 
 returns : tie.Need-returns
-returns c = omega (arith, number-split 2 2 (now (c .before .before .before .args .s)) (c .before .before .before .args .at))
+returns c =
+    omega (arith, number-split 2 2 (now (c .before .before .before .args .s)) (c .before .before .before .args .at))
 
 pub u32-at-spec : {M : Type 1} → statement M
-u32-at-spec =
-    tie.close (tie.spec u16-at-requires add-u16-at u16-at-requires-2 mul-result add-result returns)
+u32-at-spec = tie.close (tie.spec u16-at-requires add-u16-at u16-at-requires-2 mul-result add-result returns)

@@ -21,8 +21,8 @@ add-result : tie.Need-add-result
 add-result c = search needs
 
 returns : tie.Need-returns
-returns c = omega (arith, number-split 4 4 (now (c .before .before .before .args .s)) (c .before .before .before .args .at))
+returns c =
+    omega (arith, number-split 4 4 (now (c .before .before .before .args .s)) (c .before .before .before .args .at))
 
 pub u64-at-spec : {M : Type 1} → statement M
-u64-at-spec =
-    tie.close (tie.spec u32-at-requires add-u32-at u32-at-requires-2 mul-result add-result returns)
+u64-at-spec = tie.close (tie.spec u32-at-requires add-u32-at u32-at-requires-2 mul-result add-result returns)

@@ -22,7 +22,13 @@ loop-holds : tie.Need-loop-holds Inv-loop μ-loop
 loop-holds c = (omega arith, filled-start (c .rows2 .given .0 .1))
 
 row-from-requires : tie.Need-row-from-requires Inv-loop μ-loop
-row-from-requires c κs = (c .before .before .before .before .before .before .pre .0, (c .before .before .before .before .before .before .pre .1, (omega arith, c .before .before .before .rows .ensures)))
+row-from-requires c κs = (
+  c .before .before .before .before .before .before .pre .0,
+  (
+    c .before .before .before .before .before .before .pre .1,
+    (omega arith, c .before .before .before .rows .ensures),
+  ),
+)
 
 mul-rows : tie.Need-mul-rows Inv-loop μ-loop
 mul-rows c = omega arith
@@ -37,24 +43,11 @@ loop-less : tie.Need-loop-less Inv-loop μ-loop
 loop-less c = omega arith
 
 loop-again : tie.Need-loop-again Inv-loop μ-loop
-loop-again c = (omega arith, filled-more (c .row-from .result) (omega arith) (c .before .before .loop .inv .1) (c .row-from .ensures))
+loop-again c = (omega arith, filled-more _ (omega arith) (c .before .before .loop .inv .1) (c .row-from .ensures))
 
 returns : tie.Need-returns Inv-loop μ-loop
 returns c = filled-end (omega arith) (c .before .loop .inv .1)
 
 pub copy-rows-spec : {M : Type 1} → statement M
-copy-rows-spec =
-    tie.close
-    (tie.spec
-    Inv-loop
-    μ-loop
-    states-requires
-    rows-requires
-    loop-holds
-    row-from-requires
-    mul-rows
-    slice-write-rows
-    add-s
-    loop-less
-    loop-again
-    returns)
+copy-rows-spec = tie.close (tie.spec Inv-loop μ-loop states-requires rows-requires loop-holds row-from-requires mul-rows
+    slice-write-rows add-s loop-less loop-again returns)

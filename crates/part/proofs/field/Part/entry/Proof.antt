@@ -1,24 +1,23 @@
-use native.Mathlib.Omega.{arith}
-use Rattle.part.specs.Record.{entry-at}
 use borrow.Author.Needs.{needs}
+use Rattle.part.specs.Record.{entry-at}
 use Rattle.part.proofs.field.Part.entry.Statement.{statement}
 use Rattle.part.proofs.field.Part.entry.Tie as tie
 
-states-requires : tie.Need-states-requires
-states-requires c κs = search needs
+counts-requires : tie.Need-counts-requires
+counts-requires c κs = search needs
 
-add-result : tie.Need-add-result
-add-result c = search needs
+entries-at-requires : tie.Need-entries-at-requires
+entries-at-requires c κs = search needs
 
 mul-result : tie.Need-mul-result
 mul-result c = search needs
 
-add-result-2 : tie.Need-add-result-2
-add-result-2 c = search needs
+add-result : tie.Need-add-result
+add-result c = search needs
 
 returns : tie.Need-returns
 unfolding entry-at
-returns c = omega arith
+returns c = let at = c .entries-at .ensures in let read = c .before .counts .ensures .0 in cc
 
 pub entry-spec : {M : Type 1} → statement M
-entry-spec = tie.close (tie.spec states-requires add-result mul-result add-result-2 returns)
+entry-spec = tie.close (tie.spec counts-requires entries-at-requires mul-result add-result returns)

@@ -24,11 +24,13 @@ returns-2 : tie.Need-returns-2
 returns-2 c e = absurd (true-not-false e refl)
 
 -- the identifier at `near`, if any, is above e
-above : (c : tie.Joined2) → let a = c .before .before .before .before .args in a .near < events (now (a .b)) → a .e < identifier (now (a .b)) (a .near)
+above : (c : tie.Joined2) → let a = c .before .before .before .before .args in a .near < events (now (a .b))
+    → a .e < identifier (now (a .b)) (a .near)
 above c l = ⊎-elim (λ w. let read = w .1 .ensures .0 in omega arith) (λ w. absurd (omega arith)) (c .if2 .came)
 
 returns-3 : tie.Need-returns-3
-returns-3 c e = let start = c .before .before .before .before .before in rising-gap _ _ (start .pre .1) (start .args .near) (omega arith) (above (c .before)) (λ l. absurd (omega arith))
+returns-3 c e = let start = c .before .before .before .before .before in
+    rising-gap _ _ (start .pre .1) (start .args .near) (omega arith) (above (c .before)) (λ l. absurd (omega arith))
 
 sub-identifier : tie.Need-sub-identifier
 sub-identifier c = search needs
@@ -40,17 +42,9 @@ returns-4 : tie.Need-returns-4
 returns-4 c e =
     let start = c .before .before .before .before .before .before in
     let read = c .identifier2 .ensures .0 in
-    rising-gap _ _ (start .pre .1) (start .args .near) (omega arith) (above (c .before .before)) (λ l. omega (arith, ltb-true (c .identifier2 .result) (start .args .e) e))
+    rising-gap _ _ (start .pre .1) (start .args .near) (omega arith) (above (c .before .before))
+    (λ l. omega (arith, ltb-true (c .identifier2 .result) (start .args .e) e))
 
 pub in-gap-spec : {M : Type 1} → statement M
-in-gap-spec =
-    tie.close
-    (tie.spec
-    events-requires
-    returns
-    identifier-requires
-    returns-2
-    returns-3
-    sub-identifier
-    identifier-requires-2
-    returns-4)
+in-gap-spec = tie.close (tie.spec events-requires returns identifier-requires returns-2 returns-3 sub-identifier
+    identifier-requires-2 returns-4)

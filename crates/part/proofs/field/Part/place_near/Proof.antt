@@ -12,7 +12,9 @@ identifier-requires : tie.Need-identifier-requires
 identifier-requires c κs = search needs
 
 returns : tie.Need-returns
-returns c = rising-hit _ _ (c .before .before .before .before .before .pre .1) (c .before .before .before .before .before .args .near) (omega arith) (let read = c .before .identifier .ensures .0 in omega arith)
+returns c =
+    rising-hit _ _ (c .before .before .before .before .before .pre .1) _ (omega arith)
+    (let read = c .before .identifier .ensures .0 in omega arith)
 
 in-gap-requires : tie.Need-in-gap-requires
 in-gap-requires c κs = search needs
@@ -27,4 +29,5 @@ returns-3 : tie.Need-returns-3
 returns-3 c = search needs
 
 pub place-near-spec : {M : Type 1} → statement M
-place-near-spec = tie.close (tie.spec events-requires identifier-requires returns in-gap-requires returns-2 place-requires returns-3)
+place-near-spec = tie.close (tie.spec events-requires identifier-requires returns in-gap-requires returns-2
+    place-requires returns-3)

@@ -1,49 +1,38 @@
-use native.Mathlib.Omega.{arith}
+use Prim.Native.Nat.{_*_, _≤_}
 use native.Mathlib.Nat.{add-zero}
-use Rattle.part.specs.Record.{row-at}
-use Rattle.part.proofs.Fields.{row-inside}
+use native.Mathlib.Omega.{arith}
 use borrow.Author.Needs.{needs}
+use Rattle.part.specs.Record.{row-at}
+use Rattle.part.proofs.Fields.{rows-inside}
 use Rattle.part.proofs.field.Part.rows.Statement.{statement}
 use Rattle.part.proofs.field.Part.rows.Tie as tie
 
-states-requires : tie.Need-states-requires
-states-requires c κs = search needs
+counts-requires : tie.Need-counts-requires
+counts-requires c κs = search needs
 
-add-result : tie.Need-add-result
-add-result c = search needs
+rows-at-requires : tie.Need-rows-at-requires
+rows-at-requires c κs = search needs
 
-events-requires : tie.Need-events-requires
-events-requires c κs = search needs
+-- there are few rows before the event's
+few : (c : tie.After-struct-known)
+    → c .before .before .before .before .args .i * c .before .before .counts .result .states ≤ 2048
+few c =
+    let start = c .before .before .before .before in
+    let before = rows-inside _ _ (start .pre .0) (start .pre .1) in
+    rw (c .before .before .counts .ensures .0) (omega arith)
 
 mul-result : tie.Need-mul-result
-mul-result c = search needs
-
-add-result-2 : tie.Need-add-result-2
-add-result-2 c = search needs
+mul-result c = omega (arith, few c)
 
 mul-result-2 : tie.Need-mul-result-2
-mul-result-2 c = let f = c .before .before .before .pre .0 in let first = row-inside _ _ 0 _ f (c .before .before .before .pre .1) (f .one-state) (c .before .states .ensures .0) in omega arith
+mul-result-2 c = omega (arith, few c)
 
-mul-result-3 : tie.Need-mul-result-3
-mul-result-3 c = let f = c .before .before .before .pre .0 in let first = row-inside _ _ 0 _ f (c .before .before .before .pre .1) (f .one-state) (c .before .states .ensures .0) in omega arith
-
-add-result-3 : tie.Need-add-result-3
-add-result-3 c = let f = c .before .before .before .pre .0 in let first = row-inside _ _ 0 _ f (c .before .before .before .pre .1) (f .one-state) (c .before .states .ensures .0) in omega arith
+add-result : tie.Need-add-result
+add-result c = omega (arith, few c)
 
 returns : tie.Need-returns
 unfolding row-at
-returns c = let n = c .before .states .ensures .0 in let m = c .events .ensures .0 in rw add-zero cc
+returns c = rw (c .before .rows-at .ensures, c .before .before .counts .ensures .0, add-zero)
 
 pub rows-spec : {M : Type 1} → statement M
-rows-spec =
-    tie.close
-    (tie.spec
-    states-requires
-    add-result
-    events-requires
-    mul-result
-    add-result-2
-    mul-result-2
-    mul-result-3
-    add-result-3
-    returns)
+rows-spec = tie.close (tie.spec counts-requires rows-at-requires mul-result mul-result-2 add-result returns)

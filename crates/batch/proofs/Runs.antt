@@ -1,0 +1,149 @@
+-- The calls of a script made one after the other.
+use Prim.Native.Nat.{ℕ, _+_, _*_, _≤_, _<_}
+use mathlib.Core.Path.{_≡_, refl, sym, ap, _∙_}
+use mathlib.Core.List.{List, [], _∷_}
+use mathlib.Core.Option.{none, some, Option·map}
+use native.Mathlib.Omega.{arith}
+use lib.ListN.{length, drop, length-drop, length-append}
+use lib.Seq.{drop-drop}
+use borrow.Author.Tests.{lt-ltb, le-ltb}
+use Rattle.words.specs.LittleEndian.{digits}
+use Rattle.words.specs.Laid.{over}
+use Rattle.words.proofs.LittleEndian.{length-digits}
+use Rattle.words.proofs.LaidLaws.{length-over, over-nothing, over-append}
+use Rattle.script.specs.Operation.{operation, size}
+use Rattle.store.specs.Answer.{Answer, gives, refused, clash, breaks}
+use Rattle.store.specs.Model.{Call}
+use Rattle.store.specs.Demand.{step, shelf-after, shelf-answers}
+use Rattle.batch.specs.Script.{calls, listed}
+use Rattle.batch.specs.Slots.{numbers, words, slots}
+use Rattle.batch.specs.Performed.{Done, Performed}
+use Rattle.batch.specs.Running.{Outcome, ran, malformed, too-few, Left, run-calls, run}
+use Rattle.batch.proofs.Calls.{calls-none-left, call-sized, First, calls-first, listed-none}
+
+-- ---- the answers
+
+length-words : (ns : List ℕ) → length (words ns) ≡ length ns * 8
+unfolding words
+length-words [] = refl
+length-words (n ∷ ns) =
+    let one = length-append (digits 8 n) (words ns) in
+    let eight = length-digits 8 n in
+    let more = length-words ns in
+    omega arith
+
+-- An answer takes 48 bytes.
+length-answer : (a : Answer) → length (words (numbers a)) ≡ 48
+unfolding numbers
+length-answer (gives n) = length-words (0 ∷ n ∷ 0 ∷ 0 ∷ 0 ∷ 0 ∷ [])
+length-answer (refused k) = length-words (1 ∷ k ∷ 0 ∷ 0 ∷ 0 ∷ 0 ∷ [])
+length-answer (clash e) = length-words (2 ∷ e ∷ 0 ∷ 0 ∷ 0 ∷ 0 ∷ [])
+length-answer (breaks v) = length-words (3 ∷ v .rule ∷ v .event ∷ v .s ∷ v .t ∷ v .u ∷ [])
+
+-- The first answer laid, and the others behind it.
+over-slots : (out : List ℕ) (at : ℕ) (a : Answer) (more : List Answer)
+    → over out at (slots (a ∷ more)) ≡ over (over out at (words (numbers a))) (at + 48) (slots more)
+unfolding slots
+over-slots out at a more =
+    over-append out at (words (numbers a)) (slots more)
+    ∙ ap (λ (k : ℕ). over (over out at (words (numbers a))) (at + k) (slots more)) (length-answer a)
+
+-- ---- the calls made so far
+
+-- Some calls of the script are made, up to `at`: to make those that are left leaves what making them all leaves.
+pub record Made (script shelf₀ out₀ shelf out : List ℕ) (at slot : ℕ) : Type 0 where
+  pub left : List Call
+  pub within : at ≤ length script
+  pub behind : calls (drop at script) ≡ some left
+  pub same-shelf : shelf-after left shelf ≡ shelf-after (listed script) shelf₀
+  pub same-answers : over out slot (slots (shelf-answers left shelf))
+      ≡ over out₀ 0 (slots (shelf-answers (listed script) shelf₀))
+  pub room : slot + length left * 48 ≤ length out
+  pub shelf-size : length shelf ≡ length shelf₀
+  pub out-size : length out ≡ length out₀
+
+pub made-none : (script shelf out : List ℕ) → calls script ≡ some (listed script)
+    → length (listed script) * 48 ≤ length out
+    → Made script shelf out shelf out 0 0
+made-none script shelf out e h = record {
+  left = listed script;
+  within = omega arith;
+  behind = e;
+  same-shelf = refl;
+  same-answers = refl;
+  room = omega arith;
+  shelf-size = refl;
+  out-size = refl;
+}
+
+module _ (script shelf₀ out₀ shelf out : List ℕ) (at slot : ℕ) (m : Made script shelf₀ out₀ shelf out at slot) where
+  pub made-end : length script ≤ at
+      → (shelf ≡ shelf-after (listed script) shelf₀)
+      × (out ≡ over out₀ 0 (slots (shelf-answers (listed script) shelf₀)))
+  unfolding shelf-after shelf-answers slots
+  made-end h =
+      let left-bytes = length-drop at script in
+      let found = calls-none-left (drop at script) (omega arith) in
+      let found-too = m .behind in
+      let none-left : m .left ≡ [] = cc in
+      (rw none-left at (m .same-shelf), sym (over-nothing out slot) ∙ rw none-left at (m .same-answers))
+
+  module _ (some-left : at < length script) where
+    next-call : First (drop at script) (m .left)
+    next-call = calls-first (drop at script) (m .left) (simp length-drop (omega arith)) (m .behind)
+
+    -- There is room for its answer.
+    pub made-room : slot + 48 ≤ length out
+    made-room = omega (arith, ap length (next-call .all))
+
+    module _ (shelf' out' : List ℕ) (next : ℕ) (one : Performed script at shelf shelf' out slot out' next) where
+      done : Done (next-call .call) shelf shelf' out slot out' at next (operation (drop at script))
+      done = one (next-call .call) (next-call .is)
+
+      pub made-further : at < next
+      made-further = omega (arith, done .behind, call-sized (drop at script) (next-call .call) (next-call .is))
+
+      pub made-next : length shelf' ≡ length shelf → Made script shelf₀ out₀ shelf' out' next (slot + 48)
+      unfolding shelf-after shelf-answers
+      made-next same =
+          let f = next-call in
+          let d = done in
+          let c = f .call in
+          let whole = call-sized (drop at script) c (f .is) in
+          let left-bytes = length-drop at script in
+          let count = ap length (f .all) in
+          let laid = length-over out slot (words (numbers (step c shelf .answer))) in
+          let as-long : length out' ≡ length out = cc in
+          record {
+            left = f .others;
+            within = omega arith;
+            behind = rw (d .behind, ← drop-drop (size (operation (drop at script))) at script) (f .behind);
+            same-shelf = rw (d .shelf) (rw (f .all) at (m .same-shelf));
+            same-answers = rw (d .shelf, d .answers)
+                (sym (over-slots out slot (step c shelf .answer) (shelf-answers (f .others) (step c shelf .shelf)))
+                ∙ (rw (f .all) at (m .same-answers)));
+            room = omega arith;
+            shelf-size = same ∙ m .shelf-size;
+            out-size = as-long ∙ m .out-size;
+          }
+
+-- ---- the whole script
+
+-- The outcome and the two buffers that the code is to give, in the form in which its contract has them.
+abbrev pub Leaves : Left → Outcome → List ℕ → List ℕ → Type 0
+Leaves l o shelf answers = (o ≡ l .outcome) × ((shelf ≡ l .shelf) × (answers ≡ l .answers))
+
+module _ (script s out : List ℕ) where
+  pub run-malformed : none ≡ Option·map length (calls script) → Leaves (run script s out) malformed s out
+  unfolding run
+  run-malformed e = let so = listed-none script e in rw (so, run) (refl, (refl, refl))
+
+  module _ (cs : List Call) (all : calls script ≡ some cs) where
+    pub run-too-few : length out < length cs * 48 → Leaves (run script s out) too-few s out
+    unfolding run run-calls
+    run-too-few h = let small = lt-ltb (length out) (length cs * 48) h in rw (all, run, small) (refl, (refl, refl))
+
+    pub run-all : length cs * 48 ≤ length out
+        → Leaves (run script s out) (ran (length cs)) (shelf-after cs s) (over out 0 (slots (shelf-answers cs s)))
+    unfolding run run-calls
+    run-all h = let enough = le-ltb (length out) (length cs * 48) h in rw (all, run, enough) (refl, (refl, refl))

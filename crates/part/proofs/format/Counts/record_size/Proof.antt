@@ -1,0 +1,17 @@
+use native.Mathlib.Omega.{arith}
+use Rattle.part.proofs.Fields.{size-most}
+use borrow.Author.Needs.{needs}
+use Rattle.part.proofs.format.Counts.record_size.Statement.{statement}
+use Rattle.part.proofs.format.Counts.record_size.Tie as tie
+
+body-size-requires : tie.Need-body-size-requires
+body-size-requires c κs = search needs
+
+add-result : tie.Need-add-result
+add-result c = omega (arith, size-most _ (c .before .pre))
+
+returns : tie.Need-returns
+returns c = search needs
+
+pub record-size-spec : {M : Type 1} → statement M
+record-size-spec = tie.close (tie.spec body-size-requires add-result returns)

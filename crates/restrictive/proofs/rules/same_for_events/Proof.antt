@@ -1,0 +1,83 @@
+use borrow.Author.Needs.{needs}
+use Rattle.words.proofs.Sets.{without-less}
+use Rattle.part.specs.Record.{observing}
+use Rattle.restrictive.specs.Found.{found-of}
+use denote.Ref.{now}
+use Rattle.restrictive.proofs.EventScans.{Open, Next, open-all, open-below, open-speaks}
+use Rattle.restrictive.proofs.EventScans.{open-found, open-next, open-none}
+use Rattle.restrictive.proofs.rules.same_for_events.Statement.{statement}
+use Rattle.restrictive.proofs.rules.same_for_events.Tie as tie
+
+abbrev Inv-loop : tie.InvT-loop
+Inv-loop b observer column rule concerned permitted offers rest₀ rest =
+    Open b (observing observer column) rule concerned rest
+
+abbrev μ-loop : tie.MeasureT-loop
+μ-loop b observer column rule concerned permitted offers rest₀ rest = rest
+
+loop-holds : tie.Need-loop-holds Inv-loop μ-loop
+loop-holds c =
+    let start = c .before .before in
+    open-all (record { last = start .pre .1 .0 .1; of = start .pre .1 .1 .0 }) (start .fits .concerned .fits)
+
+lowest-requires : tie.Need-lowest-requires Inv-loop μ-loop
+lowest-requires c κs = tt
+
+-- the event that is looked at
+event : (c : tie.After-lowest Inv-loop μ-loop) → let a = c .before .before .before .before .before .args in
+    Next (now (a .b)) (observing (a .observer) (now (a .column))) (a .rule) (a .concerned)
+    (c .before .before .loop .rest)
+    (c .lowest .result)
+event c =
+    let loop = c .before .before in
+    let pre = loop .before .before .before .pre .1 in
+    record {
+      spoken = record { last = pre .0 .1; of = pre .1 .0 };
+      left = loop .loop .inv;
+      some-left = c .before .loop-test .taken;
+      low = c .lowest .ensures;
+    }
+
+case-violation-requires : tie.Need-case-violation-requires Inv-loop μ-loop
+case-violation-requires c κs =
+    let pre = c .before .before .before .before .before .pre in
+    record {
+      sound = pre .0;
+      placed = open-below (event c);
+      later = pre .1 .0 .0;
+      last = pre .1 .0 .1;
+      speaks = open-speaks (event c);
+      permitting = pre .1 .1 .1 .0 _;
+      offering = λ h. pre .1 .1 .1 .1 h _;
+    }
+
+enum-told : tie.Need-enum-told Inv-loop μ-loop
+enum-told c = search needs
+
+returns : tie.Need-returns Inv-loop μ-loop
+returns c =
+    open-found (event (c .before .before .before)) _ _ (c .before .before .case-violation .ensures)
+    (c .enum-told .given .1)
+
+enum-told-2 : tie.Need-enum-told-2 Inv-loop μ-loop
+enum-told-2 c = search needs
+
+drop-lowest-requires : tie.Need-drop-lowest-requires Inv-loop μ-loop
+drop-lowest-requires c κs = c .before .before .before .before .loop-test .taken
+
+loop-less : tie.Need-loop-less Inv-loop μ-loop
+loop-less c =
+    rw (c .drop-lowest .ensures) (without-less _ _ (c .before .before .before .before .before .loop-test .taken))
+
+loop-again : tie.Need-loop-again Inv-loop μ-loop
+loop-again c =
+    open-next (event (c .before .before .before .before)) _ _ (c .before .before .before .case-violation .ensures)
+    (c .before .enum-told2 .given .1) (c .drop-lowest .ensures)
+
+returns-2 : tie.Need-returns-2 Inv-loop μ-loop
+unfolding found-of
+returns-2 c = open-none _ _ _ (c .before .loop .inv) (c .loop-test .left)
+
+pub same-for-events-spec : {M : Type 1} → statement M
+same-for-events-spec = tie.close (tie.spec Inv-loop μ-loop loop-holds lowest-requires case-violation-requires enum-told
+    returns enum-told-2 drop-lowest-requires loop-less loop-again returns-2)
