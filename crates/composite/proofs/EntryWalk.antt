@@ -252,7 +252,7 @@ module _ {a b xs : List ℕ} where
       → Walked a b (set xs count e) (count + 1) i' j' × (i + j < i' + j')
   walked-more {count} {i} {j} {e} f g w h q qi qj =
       let n = w .within in
-      let room : count < length xs = omega (arith, f .most-events, g .most-events, w .size, n) in
+      let room : count < length xs = omega (arith, f .few .most-events, g .few .most-events, w .size, n) in
       let t : Turn a b i j e = subst (Turn a b i j) (sym q) (turn a b f g i j (n .0) (n .1) h) in (
         record {
           size = length-set xs count e ∙ w .size;
@@ -278,7 +278,7 @@ module _ {a b xs : List ℕ} where
       let all : take count xs ≡ merged a b =
       sym (append-nil (take count xs)) ∙ ap (λ (l : List ℕ). take count xs ++ l) (sym rest)
       ∙ w .so-far in
-      let few : count ≤ length xs = omega (arith, w .size, w .within, f .most-events, g .most-events) in
+      let few : count ≤ length xs = omega (arith, w .size, w .within, f .few .most-events, g .few .most-events) in
       let size : count ≡ length (merged a b) = sym (length-take-le count xs few) ∙ ap length all in
       let whole : xs ≡ merged a b ++ drop (length (merged a b)) (replicate 64 0) =
       sym (take-append-drop count xs) ∙ ap (λ (l : List ℕ). l ++ drop count xs) all

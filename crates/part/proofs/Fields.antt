@@ -27,11 +27,8 @@ module _ (c : Counts) (few : Few c) where
 
 -- ---- inside a framed record
 
-pub few : (b : List ℕ) → Framed b → Few (counts b)
-few b f = record { most-states = f .most-states; most-events = f .most-events }
-
 pub record-most : (b : List ℕ) → Framed b → length b ≤ max-record
-record-most b f = omega (arith, f .whole, size-most (counts b) (few b f))
+record-most b f = omega (arith, f .whole, size-most (counts b) (f .few))
 
 -- The row of event i and state s is one of the m × n rows. From where the rows of event i begin it stands 8 bytes
 -- further for each state before, and it ends inside the record.
@@ -43,7 +40,7 @@ row-from b i s at f hi hs e = (omega arith, omega (arith, f .whole, digits-lt hi
 -- The rows of event i begin before the last row.
 pub rows-inside : (b : List ℕ) (i : ℕ) → Framed b → i < events b
     → (i * states b < events b * states b) × (events b * states b ≤ 2048)
-rows-inside b i f h = (omega (arith, digits-lt {c = states b} h (f .one-state)), few-rows (counts b) (few b f))
+rows-inside b i f h = (omega (arith, digits-lt {c = states b} h (f .one-state)), few-rows (counts b) (f .few))
 
 -- The column has a byte for each state.
 pub column-size : (b : List ℕ) → Framed b → length (column b) ≡ states b

@@ -105,9 +105,9 @@ module _ (b : List ℕ) (a : Accepted b) where
 pub ranges : Ranges
 ranges b a = record {
   one-state = frame b a .one-state;
-  most-states = frame b a .most-states;
+  most-states = frame b a .few .most-states;
   start-is-state = start-below b a;
-  most-events = frame b a .most-events;
+  most-events = frame b a .few .most-events;
   whole = frame b a .whole;
   class-below = λ s h. omega (arith, class-step b a s h, classes-few b a s (omega arith));
   class-first = omega (arith, class-step b a 0 (frame b a .one-state), classes-few b a 0 (omega arith));

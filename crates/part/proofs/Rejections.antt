@@ -65,7 +65,5 @@ module _ (b : List ℕ) where
       record {
         whole = omega arith;
         one-state = c .one-state;
-        most-states = c .most-states;
-        most-events =
-            c .most-events;
+        few = record { most-states = c .most-states; most-events = c .most-events };
       }

@@ -1,5 +1,5 @@
--- The limits of a part, and the format of its record: where its columns, entries and rows begin, and how long it is, as functions of its counts (document 01,
--- "The part record"). Readers, layout, sizes and the writer cite this page.
+-- The limits of a part, and the format of its record: where its columns, entries and rows begin, and how long it is, as
+-- functions of its counts (document 01, "The part record"). Readers, layout, sizes and the writer cite this page.
 use Prim.Native.Nat.{ℕ, _+_, _*_}
 use Rattle.part.specs.declared.format.Counts.{Counts}
 

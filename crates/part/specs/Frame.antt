@@ -30,8 +30,7 @@ pub record Few (c : Counts) : Type 0 where
 pub record Framed (b : List ℕ) : Type 0 where
   pub whole : length b ≡ record-size (counts b)
   pub one-state : 1 ≤ states b
-  pub most-states : states b ≤ max-states
-  pub most-events : events b ≤ max-events
+  pub few : Few (counts b)
 
 -- The identifiers rise from place to place.
 abbrev pub Rising : List ℕ → Type 0

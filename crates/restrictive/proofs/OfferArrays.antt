@@ -102,7 +102,7 @@ module _ (b : List ℕ) (o : Observer) (framed : Framed b) (within : RowsWithin 
       → (c : ℕ) → gathered 64 (row b i s) table c ≡ any (states b) (λ t. leads b i s t && g t c)
   unfolding leads
   looked-as i s table g p h of =
-      gathered-as (states b) (row b i s) table (leads b i s) g (framed .most-states) (λ t. refl)
+      gathered-as (states b) (row b i s) table (leads b i s) g (framed .few .most-states) (λ t. refl)
       (λ t l. within i s t p h l) of
 
   -- the closure of a state, looked up likewise
@@ -111,7 +111,7 @@ module _ (b : List ℕ) (o : Observer) (framed : Framed b) (within : RowsWithin 
       → (s : ℕ) → s < states b → (c : ℕ)
       → gathered 64 (getD closure s 0) table c ≡ any (states b) (λ t. reach-for b (o .level) s t && g t c)
   closure-as closure table g closed of s h =
-      gathered-as (states b) (getD closure s 0) table (reach-for b (o .level) s) g (framed .most-states) (closed s h)
+      gathered-as (states b) (getD closure s 0) table (reach-for b (o .level) s) g (framed .few .most-states) (closed s h)
       (λ t l. reach-within b (o .level) within t l s h) of
 
   -- the classes of the closure

@@ -32,7 +32,7 @@ ready b e =
       within = λ i s t h l m. within-members _ _ (row-within b a i s h l) t m;
       sized = size;
       partition = record {
-        few = omega (arith, frame b a .most-states);
+        few = omega (arith, frame b a .few .most-states);
         below = λ s h. omega (arith, ranges b a .class-below s (omega arith), ranges b a .most-states);
       };
     }

@@ -10,7 +10,7 @@ mul-intersection : tie.Need-mul-intersection
 mul-intersection c = search needs
 
 element-copy-out-intersection : tie.Need-element-copy-out-intersection
-element-copy-out-intersection c = let pre = c .before .before .pre in omega (arith, pre .0 .sound .framed .most-states)
+element-copy-out-intersection c = let pre = c .before .before .pre in omega (arith, pre .0 .sound .framed .few .most-states)
 
 intersection-requires : tie.Need-intersection-requires
 intersection-requires c κs = search needs

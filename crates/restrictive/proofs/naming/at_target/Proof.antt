@@ -15,7 +15,7 @@ row-requires : tie.Need-row-requires
 row-requires c κs = let pre = c .before .before .pre in (pre .0 .sound .framed, (pre .0 .placed, pre .1 .0))
 
 contains-requires : tie.Need-contains-requires
-contains-requires c κs = let pre = c .before .before .before .pre in omega (arith, pre .0 .sound .framed .most-states)
+contains-requires c κs = let pre = c .before .before .before .pre in omega (arith, pre .0 .sound .framed .few .most-states)
 
 returns : tie.Need-returns
 unfolding found-of leads
@@ -29,11 +29,11 @@ mul-contains c = search needs
 
 element-copy-out-contains : tie.Need-element-copy-out-contains
 element-copy-out-contains c = let pre = c .before .before .before .before .before .pre in
-    omega (arith, pre .0 .sound .framed .most-states)
+    omega (arith, pre .0 .sound .framed .few .most-states)
 
 contains-requires-2 : tie.Need-contains-requires-2
 contains-requires-2 c κs = let pre = c .before .before .before .before .before .before .pre in
-    omega (arith, pre .0 .sound .framed .most-states)
+    omega (arith, pre .0 .sound .framed .few .most-states)
 
 -- the event leads from s to t
 led : (c : tie.Else1) → let a = c .before .before .before .before .before .args in
