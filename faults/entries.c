@@ -1,5 +1,6 @@
 /* Calls the C entries on the records in the files that are named, each in a buffer of exactly its size, so that a tool that watches
- * memory sees every byte read or written outside. Joins each record with the one before it and with itself, into buffers of several sizes. */
+ * memory sees every byte read or written outside. Joins each record with the one before it and with itself, and writes its closures, into
+ * buffers of several sizes. */
 #include <stdio.h>
 #include <stdlib.h>
 #include <string.h>
@@ -31,45 +32,88 @@ static struct bytes read_file(const char *path)
     return b;
 }
 
-/* A join into a buffer of exactly so many bytes. A refused call changes none of them. */
-static uint32_t join_into(struct bytes a, struct bytes b, size_t size)
+/* A buffer of exactly so many bytes. */
+static uint8_t *lend(size_t size)
 {
-    uint8_t *out = size == 0 ? NULL : malloc(size);
-    if (size != 0 && out == NULL) {
+    if (size == 0)
+        return NULL;
+    uint8_t *out = malloc(size);
+    if (out == NULL) {
         perror("malloc");
         exit(2);
     }
-    if (size != 0)
-        memset(out, 0x5A, size);
-    uint32_t answer = hookup_join(a.at, a.len, b.at, b.len, out, size);
-    for (size_t i = 0; answer != 0 && i < size; i++)
+    return memset(out, 0x5A, size);
+}
+
+/* Frees a buffer of which only the first so many bytes may have changed. */
+static void take_back(uint8_t *out, size_t size, size_t written, const char *call)
+{
+    for (size_t i = written; i < size; i++)
         if (out[i] != 0x5A) {
-            fprintf(stderr, "entries: a refused join changed byte %zu\n", i);
+            fprintf(stderr, "entries: %s changed byte %zu\n", call, i);
             exit(1);
         }
     free(out);
+}
+
+/* A join into a buffer of exactly so many bytes. A refused call changes none of them, another none behind the record. */
+static uint32_t join_into(struct bytes a, struct bytes b, size_t size)
+{
+    uint8_t *out = lend(size);
+    uint32_t answer = hookup_join(a.at, a.len, b.at, b.len, out, size);
+    size_t written = answer == HOOKUP_JOINED ? HOOKUP_HEADER + (out[0] | (size_t)out[1] << 8) : 0;
+    take_back(out, size, written, "a join");
     return answer;
 }
 
-static const size_t sizes[] = {0, 1, 11, 52, 400, 16586, 20000};
-
-int main(int count, char **names)
+/* The closures of a record, in the same way. Its eighth byte is the number of states. */
+static uint32_t closures_into(struct bytes record, size_t size)
 {
-    unsigned long checks = 0, passes = 0, joins = 0, joined = 0;
+    uint8_t *out = lend(size);
+    uint32_t answer = hookup_closure(record.at, record.len, out, size);
+    size_t written = answer == HOOKUP_CLOSED ? HOOKUP_CLOSURE_PIECE * (size_t)record.at[7] : 0;
+    take_back(out, size, written, "a closure");
+    return answer;
+}
+
+static const size_t sizes[] = {0, 1, 11, 52, 72, 400, 4607, 4608, 16586, 20000};
+
+struct tally {
+    unsigned long calls, done;
+};
+
+static struct tally checks, joins, closures;
+
+static void count(struct tally *tally, uint32_t answer)
+{
+    tally->calls++;
+    tally->done += answer == 0;
+}
+
+static void try_record(struct bytes before, struct bytes now)
+{
+    count(&checks, hookup_check(now.at, now.len));
+    for (size_t i = 0; i < sizeof sizes / sizeof sizes[0]; i++) {
+        count(&joins, join_into(before, now, sizes[i]));
+        count(&joins, join_into(now, now, sizes[i]));
+        count(&closures, closures_into(now, sizes[i]));
+    }
+    size_t fits = now.len > 7 ? HOOKUP_CLOSURE_PIECE * (size_t)now.at[7] : 0;
+    count(&closures, closures_into(now, fits));
+    count(&closures, closures_into(now, fits == 0 ? 0 : fits - 1));
+}
+
+int main(int named, char **names)
+{
     struct bytes before = {NULL, 0};
-    for (int k = 1; k < count; k++) {
+    for (int k = 1; k < named; k++) {
         struct bytes now = read_file(names[k]);
-        checks++;
-        passes += hookup_check(now.at, now.len) == 0;
-        for (size_t i = 0; i < sizeof sizes / sizeof sizes[0]; i++) {
-            joins += 2;
-            joined += join_into(before, now, sizes[i]) == 0;
-            joined += join_into(now, now, sizes[i]) == 0;
-        }
+        try_record(before, now);
         free(before.at);
         before = now;
     }
     free(before.at);
-    printf("entries: %lu checks, %lu pass; %lu joins, %lu joined\n", checks, passes, joins, joined);
-    return passes != 0 && joined != 0 ? 0 : 1;
+    printf("entries: %lu checks, %lu pass; %lu joins, %lu joined; %lu closures, %lu written\n", checks.calls, checks.done, joins.calls,
+           joins.done, closures.calls, closures.done);
+    return checks.done != 0 && joins.done != 0 && closures.done != 0 ? 0 : 1;
 }

@@ -1,10 +1,12 @@
 /* Holds the sizes of hookup.h, and the answer that hookup-host never gets, to the library. A size is right where the library takes it and
  * nothing beyond it. C11, and C++ too; status 1 and a line for each that is wrong. */
 #include <stdio.h>
+#include <string.h>
 
 #include "hookup.h"
 
 static int wrong = 0;
+static uint8_t out[65536];
 
 static void expect(size_t wanted, size_t got, const char *what)
 {
@@ -33,9 +35,20 @@ static size_t make(uint8_t *record, size_t n, size_t m)
     return len;
 }
 
+/* Lends hookup_closure so many bytes of out. It is to change this many of all bytes, up to the last; none where there is no room. */
+static void expect_closures(const uint8_t *record, size_t len, size_t room, size_t changed, const char *what)
+{
+    size_t end = sizeof out;
+    memset(out, 0xAA, end);
+    expect(changed == 0 ? HOOKUP_NO_ROOM : HOOKUP_CLOSED, hookup_closure(record, len, out, room), what);
+    while (end > 0 && out[end - 1] == 0xAA)
+        end--;
+    expect(changed, end, "bytes that it changed");
+}
+
 int main(void)
 {
-    static uint8_t largest[65536], smallest[64], states[65536], events[65536], out[65536];
+    static uint8_t largest[65536], smallest[64], states[65536], events[65536];
     size_t len = make(largest, HOOKUP_MAX_STATES, HOOKUP_MAX_EVENTS);
     expect(HOOKUP_MAX_RECORD, len, "bytes of the largest record");
     expect(HOOKUP_MAX_BODY, len - HOOKUP_HEADER, "bytes of its body");
@@ -48,5 +61,12 @@ int main(void)
     size_t little = make(smallest, 1, 0);
     expect(HOOKUP_JOINED, hookup_join(largest, len, smallest, little, out, HOOKUP_MAX_RECORD), "the largest joined record");
     expect(HOOKUP_NO_ROOM, hookup_join(largest, len, smallest, little, out, HOOKUP_MAX_RECORD - 1), "room for all but its last byte");
+
+    expect_closures(largest, len, HOOKUP_MAX_CLOSURE, HOOKUP_MAX_CLOSURE, "the closures of most states");
+    expect_closures(largest, len, sizeof out, HOOKUP_MAX_CLOSURE, "the same with room behind them");
+    expect_closures(largest, len, HOOKUP_MAX_CLOSURE - 1, 0, "room for all but their last byte");
+    expect_closures(smallest, little, HOOKUP_CLOSURE_PIECE, HOOKUP_CLOSURE_PIECE, "the closure of one state");
+    expect_closures(smallest, little, HOOKUP_CLOSURE_PIECE - 1, 0, "room for all but its last byte");
+    expect(HOOKUP_TOO_SHORT, hookup_closure(smallest, HOOKUP_HEADER - 1, NULL, 0), "closures of no record, without room");
     return wrong;
 }

@@ -1,5 +1,5 @@
-/* Checks one part record, or joins two and writes the joined record to a file. An example of a host program: the two calls of hookup.h, and
- * beside them only C11 and its standard library. */
+/* Checks one part record, joins two and writes the joined record to a file, or prints the silent closures of one. An example of a host
+ * program: the three calls of hookup.h, and beside them only C11 and its standard library. */
 #include <errno.h>
 #include <inttypes.h>
 #include <stdbool.h>
@@ -18,9 +18,6 @@ struct meaning {
     bool own;
     const char *words;
 };
-
-static const struct meaning passes = {HOOKUP_PASS, false, "passes"};
-static const struct meaning joined = {HOOKUP_JOINED, false, "joined"};
 
 static const struct meaning meanings[] = {
     {HOOKUP_TOO_SHORT, true, "fewer than six bytes"},
@@ -66,16 +63,24 @@ static void complain(const char *about, const char *why)
     fprintf(stderr, "hookup-host: %s: %s\n", about, why);
 }
 
-/* Prints the answer's line and gives the exit status. done is the answer of a call that did what was asked. */
-static int print_answer(uint32_t answer, const struct meaning *done, const char *which)
+/* The exit status behind what was printed, or TROUBLE where printing it or the flush fails; errno says why. */
+static int after_printing(bool printed, int status)
 {
-    const struct meaning *m = answer == done->number ? done : find_meaning(answer);
-    const char *words = m == NULL ? "not an answer that hookup.h names" : m->words;
-    if (printf("%" PRIu32 ": %s%s\n", answer, words, which) < 0 || fflush(stdout) != 0) {
-        complain("standard output", strerror(errno));
-        return TROUBLE;
-    }
-    return m == done ? DONE : REFUSED;
+    if (printed && fflush(stdout) == 0)
+        return status;
+    complain("standard output", strerror(errno));
+    return TROUBLE;
+}
+
+static int print_answer(uint32_t answer, const char *words, const char *which, int status)
+{
+    return after_printing(printf("%" PRIu32 ": %s%s\n", answer, words, which) >= 0, status);
+}
+
+static int print_refusal(uint32_t answer, const char *which)
+{
+    const struct meaning *m = find_meaning(answer);
+    return print_answer(answer, m == NULL ? "not an answer that hookup.h names" : m->words, which, REFUSED);
 }
 
 /* Bytes in memory that the holder frees. */
@@ -178,14 +183,53 @@ static size_t record_length(const uint8_t *record)
     return HOOKUP_HEADER + ((size_t)record[0] | (size_t)record[1] << 8 | (size_t)record[2] << 16 | (size_t)record[3] << 24);
 }
 
-static int check_file(const char *path)
+static int check_record(struct bytes record)
+{
+    uint32_t answer = hookup_check(record.at, record.len);
+    if (answer == HOOKUP_PASS)
+        return print_answer(answer, "passes", "", DONE);
+    return print_refusal(answer, "");
+}
+
+/* The number of states in a set of 64 bits. */
+static int set_size(const uint8_t *set)
+{
+    int size = 0;
+    for (int t = 0; t < HOOKUP_MAX_STATES; t++)
+        size += set[t / 8] >> t % 8 & 1;
+    return size;
+}
+
+/* Prints the visits from state s, as many as its set has states. False and errno where that fails. */
+static bool print_visits(int s, const uint8_t *piece)
+{
+    const uint8_t *visits = piece + HOOKUP_MAX_STATES / 8;
+    int count = set_size(piece);
+    bool printed = printf("from %d:", s) >= 0;
+    for (int i = 0; printed && i < count; i++)
+        printed = printf(" %d", visits[i]) >= 0;
+    return printed && putchar('\n') != EOF;
+}
+
+/* Prints a line for each state of a record that is not refused. The number of states is the second byte of the body. */
+static int print_closures(struct bytes record)
+{
+    uint8_t pieces[HOOKUP_MAX_CLOSURE];
+    uint32_t answer = hookup_closure(record.at, record.len, pieces, sizeof pieces);
+    if (answer != HOOKUP_CLOSED)
+        return print_refusal(answer, "");
+    int states = record.at[HOOKUP_HEADER + 1];
+    bool printed = true;
+    for (int s = 0; printed && s < states; s++)
+        printed = print_visits(s, pieces + s * HOOKUP_CLOSURE_PIECE);
+    return after_printing(printed, DONE);
+}
+
+/* Reads a file and does this with its bytes. */
+static int with_file(const char *path, int (*action)(struct bytes))
 {
     struct bytes record = {NULL, 0};
-    int status = TROUBLE;
-    if (read_file(path, &record)) {
-        uint32_t answer = hookup_check(record.at, record.len);
-        status = print_answer(answer, &passes, "");
-    }
+    int status = read_file(path, &record) ? action(record) : TROUBLE;
     free(record.at);
     return status;
 }
@@ -195,9 +239,11 @@ static int join_records(struct bytes a, struct bytes b, const char *out)
 {
     uint8_t record[HOOKUP_MAX_RECORD];
     uint32_t answer = hookup_join(a.at, a.len, b.at, b.len, record, sizeof record);
-    if (answer == HOOKUP_JOINED && !(may_replace(out) && replace_file(out, record, record_length(record))))
+    if (answer != HOOKUP_JOINED)
+        return print_refusal(answer, side(answer));
+    if (!(may_replace(out) && replace_file(out, record, record_length(record))))
         return TROUBLE;
-    return print_answer(answer, &joined, side(answer));
+    return print_answer(answer, "joined", "", DONE);
 }
 
 static int join_files(const char *first, const char *second, const char *out)
@@ -215,9 +261,11 @@ static int join_files(const char *first, const char *second, const char *out)
 int main(int count, char **arguments)
 {
     if (count == 3 && strcmp(arguments[1], "check") == 0)
-        return check_file(arguments[2]);
+        return with_file(arguments[2], check_record);
     if (count == 5 && strcmp(arguments[1], "join") == 0)
         return join_files(arguments[2], arguments[3], arguments[4]);
-    fputs("usage: hookup-host check FILE\n       hookup-host join A B OUT\n", stderr);
+    if (count == 3 && strcmp(arguments[1], "closure") == 0)
+        return with_file(arguments[2], print_closures);
+    fputs("usage: hookup-host check FILE\n       hookup-host join A B OUT\n       hookup-host closure FILE\n", stderr);
     return TROUBLE;
 }

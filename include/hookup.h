@@ -12,10 +12,13 @@
 #define HOOKUP_HEADER 6         /* bytes */
 #define HOOKUP_MAX_BODY 16580   /* bytes, with most states and most events */
 #define HOOKUP_MAX_RECORD 16586 /* bytes of header and body; every joined record fits */
+#define HOOKUP_CLOSURE_PIECE 72 /* bytes that hookup_closure writes for a state: a set of 8, then 64 visits */
+#define HOOKUP_MAX_CLOSURE 4608 /* bytes that it writes for most states */
 
 /* Answers: done. */
 #define HOOKUP_PASS 0   /* of hookup_check: no refusal applies and all five rules hold */
 #define HOOKUP_JOINED 0 /* of hookup_join: the joined record is written */
+#define HOOKUP_CLOSED 0 /* of hookup_closure: the closures are written */
 
 /* Answers: refusals of a record, tested in this order. */
 #define HOOKUP_TOO_SHORT 1    /* fewer bytes than a header has */
@@ -31,7 +34,7 @@
 #define HOOKUP_OBSERVERS_DIFFER 9
 #define HOOKUP_CLASH 10     /* a shared event clashes in kind or level */
 #define HOOKUP_TOO_LARGE 11 /* more than HOOKUP_MAX_STATES states or HOOKUP_MAX_EVENTS events together */
-#define HOOKUP_NO_ROOM 15   /* the buffer is shorter than the joined record */
+#define HOOKUP_NO_ROOM 15   /* the buffer is shorter than what is to be written; of hookup_closure too */
 
 /* What is added: to the number of the first broken rule, 1 to 5; and to an answer of hookup_join about its second record. */
 #define HOOKUP_BREAK 100
@@ -66,6 +69,24 @@ uint32_t hookup_check(const uint8_t *record, size_t len);
  * writes nothing else, keeps nothing, takes no lock, and may be made by several threads at once. It needs less than
  * 12 KB of stack: 8,775 bytes were measured on full records. */
 uint32_t hookup_join(const uint8_t *a, size_t alen, const uint8_t *b, size_t blen, uint8_t *out, size_t outlen);
+
+/* Writes, for a debugger, where silent steps lead from each state of a part, for the record's own observer.
+ *
+ * Answers HOOKUP_CLOSED if it did. out then begins with a piece of HOOKUP_CLOSURE_PIECE bytes for each state s, in the order of the
+ * states:
+ *   8 bytes   the silent closure of s as a set, lowest byte first: bit t is set where silent steps lead from s to t, and bit s always
+ *   64 bytes  the visits, a state in each: the states of the set, each once, in the order of a search from s, then zeros. It visits s
+ *             first, then each time the lowest state that a silent step leads to from one visited before and that is not visited yet.
+ * The number of visits is the number of set bits; a zero among the visits is state 0. The part need not pass.
+ *
+ * Otherwise nothing is written, and the answer is the first of these that applies:
+ *   the refusal of the record, HOOKUP_TOO_SHORT to HOOKUP_STRAY_BIT
+ *   HOOKUP_NO_ROOM, which never comes where out has HOOKUP_MAX_CLOSURE bytes
+ * The bytes of out behind the last piece stay as they were.
+ *
+ * out may not overlap the record. A pointer may be null only where its length is 0. The call reads and writes nothing else, keeps
+ * nothing, takes no lock, and may be made by several threads at once. */
+uint32_t hookup_closure(const uint8_t *record, size_t len, uint8_t *out, size_t outlen);
 
 #ifdef __cplusplus
 }

@@ -1,22 +1,25 @@
 //! Compares the unverified versions with the proved library: answers and output bytes.
 
-use crate::inputs::{span, Event, One, Pair, Table, HIGH, INPUT};
-use crate::VERSIONS;
+use crate::closure::PIECE;
+use crate::dice::Dice;
+use crate::inputs::{span, Event, One, Pair, Table, HIGH, INPUT, LOW};
+use crate::{Version, VERSIONS};
 use std::collections::BTreeMap;
 
-/// Longer than any joined record.
+/// Longer than any output.
 const ROOM: usize = 16_700;
 
 /// How often each answer came, and how many comparisons failed.
 pub struct Score {
     pub checks: BTreeMap<u32, usize>,
     pub joins: BTreeMap<u32, usize>,
+    pub closures: BTreeMap<u32, usize>,
     pub differences: usize,
 }
 
 impl Score {
     pub fn new() -> Self {
-        Score { checks: BTreeMap::new(), joins: BTreeMap::new(), differences: 0 }
+        Score { checks: BTreeMap::new(), joins: BTreeMap::new(), closures: BTreeMap::new(), differences: 0 }
     }
 
     fn fault(&mut self, what: String) {
@@ -40,25 +43,37 @@ impl Score {
     }
 
     pub fn join(&mut self, name: &str, a: &[u8], b: &[u8], room: usize) -> u32 {
-        let before: Vec<u8> = (0..ROOM).map(|i| (i * 7 + 3) as u8).collect();
-        let mut wanted = before.clone();
-        let [library, others @ ..] = &VERSIONS;
-        let answer = (library.join)(a, b, &mut wanted[..room]);
-        for version in others {
-            let mut bytes = before.clone();
-            let other = (version.join)(a, b, &mut bytes[..room]);
-            if other != answer {
-                self.fault(format!("join of {name}: library {answer}, {} {other}", version.name));
-            } else if let Some(place) = (0..ROOM).find(|&i| bytes[i] != wanted[i]) {
-                self.fault(format!("join of {name}: byte {place} is {}, in {} {}", wanted[place], version.name, bytes[place]));
-            }
-        }
+        let answer = self.output(&format!("join of {name}"), room, |version, out| (version.join)(a, b, out));
         *self.joins.entry(answer).or_default() += 1;
         answer
     }
 
+    pub fn closure(&mut self, name: &str, record: &[u8], room: usize) -> u32 {
+        let answer = self.output(&format!("closure of {name}"), room, |version, out| (version.closure)(record, out));
+        *self.closures.entry(answer).or_default() += 1;
+        answer
+    }
+
+    /// A call that is lent so many bytes: the answers, and every byte of a longer buffer.
+    fn output(&mut self, what: &str, room: usize, call: impl Fn(&Version, &mut [u8]) -> u32) -> u32 {
+        let before: Vec<u8> = (0..ROOM).map(|i| (i * 7 + 3) as u8).collect();
+        let mut wanted = before.clone();
+        let [library, others @ ..] = &VERSIONS;
+        let answer = call(library, &mut wanted[..room]);
+        for version in others {
+            let mut bytes = before.clone();
+            let other = call(version, &mut bytes[..room]);
+            if other != answer {
+                self.fault(format!("{what}: library {answer}, {} {other}", version.name));
+            } else if let Some(place) = (0..ROOM).find(|&i| bytes[i] != wanted[i]) {
+                self.fault(format!("{what}: byte {place} is {}, in {} {}", wanted[place], version.name, bytes[place]));
+            }
+        }
+        answer
+    }
+
     /// The timed inputs: also against the answers they are made for.
-    pub fn timed(&mut self, ones: &[One], pairs: &[Pair]) {
+    pub fn timed(&mut self, ones: &[One], pairs: &[Pair], closures: &[One]) {
         for one in ones {
             let answer = self.check(&one.name(), &one.record);
             if answer != one.answer {
@@ -71,6 +86,12 @@ impl Score {
                 self.fault(format!("join of {}: made for {}, library {answer}", pair.name, pair.answer));
             }
         }
+        for one in closures {
+            let answer = self.closure(&one.name(), &one.record, ROOM);
+            if answer != one.answer {
+                self.fault(format!("closure of {}: made for {}, library {answer}", one.name(), one.answer));
+            }
+        }
     }
 
     /// Random parts, whole and damaged, and random bytes.
@@ -79,61 +100,36 @@ impl Score {
         for round in 0..rounds {
             let (a, b) = couple(dice);
             let (mut x, mut y) = (a.record(), b.record());
-            self.check(&format!("random part {round}"), &x);
-            let room = match dice.below(4) {
-                0 => dice.below(joined_len(&a, &b) + 1).min(ROOM),
-                1 => joined_len(&a, &b).min(ROOM),
-                2 => (joined_len(&a, &b) - 1).min(ROOM),
-                _ => ROOM,
-            };
-            self.join(&format!("random pair {round}"), &x, &y, room);
+            self.single(&format!("random part {round}"), &x, room(dice, PIECE * a.n()));
+            self.join(&format!("random pair {round}"), &x, &y, room(dice, joined_len(&a, &b)));
             damage(dice, &mut x);
-            self.check(&format!("damaged part {round}"), &x);
+            self.single(&format!("damaged part {round}"), &x, room(dice, PIECE * a.n()));
             self.join(&format!("damaged A {round}"), &x, &y, ROOM);
             damage(dice, &mut y);
             self.join(&format!("damaged B {round}"), &a.record(), &y, ROOM);
+            let c = scattered(dice);
+            self.single(&format!("scattered part {round}"), &c.record(), room(dice, PIECE * c.n()));
             let noise: Vec<u8> = (0..dice.below(40)).map(|_| dice.below(3) as u8).collect();
-            self.check(&format!("noise {round}"), &noise);
+            self.single(&format!("noise {round}"), &noise, room(dice, PIECE));
         }
+    }
+
+    /// The calls on one record.
+    fn single(&mut self, name: &str, record: &[u8], room: usize) {
+        self.check(name, record);
+        self.closure(name, record, room);
     }
 }
 
-/// Splitmix64.
-struct Dice(u64);
-
-impl Dice {
-    fn next(&mut self) -> u64 {
-        self.0 = self.0.wrapping_add(0x9e37_79b9_7f4a_7c15);
-        let mut x = self.0;
-        x = (x ^ x >> 30).wrapping_mul(0xbf58_476d_1ce4_e5b9);
-        x = (x ^ x >> 27).wrapping_mul(0x94d0_49bb_1331_11eb);
-        x ^ x >> 31
-    }
-
-    fn below(&mut self, end: usize) -> usize {
-        (self.next() % end as u64) as usize
-    }
-
-    fn observer(&mut self) -> u8 {
-        [0x00, 0x80, 0x81, self.next() as u8][self.below(4)]
-    }
-
-    fn one_in(&mut self, n: usize) -> bool {
-        self.below(n) == 0
-    }
-
-    /// Some of the set's bits, at least one of a set that has any.
-    fn some(&mut self, set: u64) -> u64 {
-        let picked = set & self.next();
-        if picked != 0 {
-            return picked;
-        }
-        let mut rest = set;
-        for _ in 0..self.below(set.count_ones().max(1) as usize) {
-            rest &= rest - 1;
-        }
-        rest & rest.wrapping_neg()
-    }
+/// A buffer's length beside the output's: shorter, just long enough, one byte too short, longer.
+fn room(dice: &mut Dice, len: usize) -> usize {
+    let room = match dice.below(4) {
+        0 => dice.below(len + 1),
+        1 => len,
+        2 => len - 1,
+        _ => ROOM,
+    };
+    room.min(ROOM)
 }
 
 /// Two parts that often share events and often pass.
@@ -149,8 +145,8 @@ fn couple(dice: &mut Dice) -> (Table, Table) {
     (a, b)
 }
 
-/// A part made from a machine of its classes; sometimes one row is then changed.
-fn grouped(dice: &mut Dice, n: usize, observer: u8) -> Table {
+/// Classes of n states, numbered by first appearance.
+fn classes(dice: &mut Dice, n: usize) -> Vec<u8> {
     let most = 1 + dice.below(n);
     let k = 1 + dice.below(most);
     let mut classes = Vec::new();
@@ -161,6 +157,13 @@ fn grouped(dice: &mut Dice, n: usize, observer: u8) -> Table {
         seen = seen.max(class + 1);
         classes.push(class as u8);
     }
+    classes
+}
+
+/// A part made from a machine of its classes; sometimes one row is then changed.
+fn grouped(dice: &mut Dice, n: usize, observer: u8) -> Table {
+    let classes = classes(dice, n);
+    let seen = classes.iter().fold(0, |seen, &class| seen.max(class as usize + 1));
     let members: Vec<u64> = (0..seen)
         .map(|class| (0..n).filter(|&s| classes[s] as usize == class).fold(0, |set, s| set | 1 << s))
         .collect();
@@ -197,6 +200,21 @@ fn grouped(dice: &mut Dice, n: usize, observer: u8) -> Table {
         let e = dice.below(m);
         let s = dice.below(n);
         table.events[e].rows[s] ^= 1 << dice.below(n);
+    }
+    table
+}
+
+/// A part with any number of states, and few steps from each of them, or steps to all.
+fn scattered(dice: &mut Dice) -> Table {
+    let n = 1 + dice.below(64);
+    let mut table = Table::new(if dice.one_in(3) { vec![0; n] } else { classes(dice, n) });
+    let most = 1 + dice.below(2);
+    for _ in 0..dice.below(6) {
+        let kind = 1 + dice.below(2) as u8;
+        let level = if dice.one_in(4) { LOW } else { HIGH };
+        let few = |dice: &mut Dice| (0..dice.below(most + 1)).fold(0, |row, _| row | 1 << dice.below(n));
+        let rows: Vec<u64> = (0..n).map(|_| if dice.one_in(40) { span(0..n) } else { few(dice) }).collect();
+        table.add(kind, level, |s| rows[s]);
     }
     table
 }

@@ -1,5 +1,6 @@
 //! The records that are timed.
 
+use crate::dice::Dice;
 use std::ops::Range;
 
 pub const LOW: u8 = 0x00;
@@ -72,7 +73,7 @@ impl Table {
     }
 }
 
-/// A record for Check, with the answer it is made for.
+/// A record for Check or its closures, with the answer it is made for.
 pub struct One {
     pub family: &'static str,
     pub n: usize,
@@ -87,9 +88,10 @@ impl One {
     }
 }
 
-/// Two records for Join, with the answer they are made for.
+/// Two records for Join, with the answer they are made for; n is the number of pairs of states.
 pub struct Pair {
     pub name: String,
+    pub n: usize,
     pub answer: u32,
     pub a: Vec<u8>,
     pub b: Vec<u8>,
@@ -135,14 +137,16 @@ const FAMILIES: &[Family] = &[
     ("full input own", 0, |n, m| full(own(n), m, INPUT, LOW)),
     ("full input pairs", 0, |n, m| full(pairs(n), m, INPUT, LOW)),
     ("full input single", 0, |n, m| full(single(n), m, INPUT, LOW)),
-    ("full quiet own", 0, |n, m| full(own(n), m, OUTPUT, HIGH)),
-    ("full quiet pairs", 0, |n, m| full(pairs(n), m, INTERNAL, HIGH)),
-    ("full quiet single", 0, |n, m| full(single(n), m, OUTPUT, HIGH)),
+    ("full silent own", 0, |n, m| full(own(n), m, OUTPUT, HIGH)),
+    ("full silent pairs", 0, |n, m| full(pairs(n), m, INTERNAL, HIGH)),
+    ("full silent single", 0, |n, m| full(single(n), m, OUTPUT, HIGH)),
     ("sparse output", 0, |n, m| Table::new(pairs(n)).with(m, OUTPUT, LOW, |e, s| turn(n, e, s))),
     ("sparse input", 0, |n, m| Table::new(pairs(n)).with(m, INPUT, LOW, |e, s| turn(n, e, s))),
-    ("sparse quiet", 0, |n, m| Table::new(pairs(n)).with(m, OUTPUT, HIGH, |e, s| turn(n, e, s))),
+    ("sparse silent", 0, |n, m| Table::new(pairs(n)).with(m, OUTPUT, HIGH, |e, s| turn(n, e, s))),
     ("sparse mixed", 0, mixed),
-    ("line quiet", 0, |n, m| Table::new(own(n)).with(m, INTERNAL, HIGH, |_, s| line(s, n))),
+    ("line silent", 0, |n, m| Table::new(own(n)).with(m, INTERNAL, HIGH, |_, s| line(s, n))),
+    ("line up", 0, up),
+    ("line down", 0, down),
     ("line stay", 0, |n, m| Table::new(own(n)).with(1, OUTPUT, HIGH, |_, s| line(s, n)).with(m - 1, OUTPUT, LOW, |_, s| 1 << s)),
     ("line full", 0, |n, m| Table::new(own(n)).with(1, OUTPUT, HIGH, |_, s| line(s, n)).with(m - 1, OUTPUT, LOW, |_, _| span(0..n))),
     ("line twin", 0, twin),
@@ -152,6 +156,35 @@ const FAMILIES: &[Family] = &[
     ("late rule 4", 104, late4),
     ("late rule 5", 105, late5),
 ];
+
+/// The records whose closures are timed.
+const CLOSURES: &[Family] = &[
+    ("closure up", 0, up),
+    ("closure down", 0, down),
+    ("closure full", 0, |n, m| full(single(n), m, OUTPUT, HIGH)),
+    ("closure none", 0, |n, m| full(single(n), m, OUTPUT, LOW)),
+    ("closure sparse", 0, sparse),
+];
+
+/// Silent steps from each state to the next, in one class.
+fn up(n: usize, m: usize) -> Table {
+    Table::new(single(n)).with(m, INTERNAL, HIGH, |_, s| line(s, n))
+}
+
+/// Silent steps from each state to the one before, in one class.
+fn down(n: usize, m: usize) -> Table {
+    Table::new(single(n)).with(m, INTERNAL, HIGH, |_, s| (1 << s) >> 1)
+}
+
+/// Two random silent steps from each state, by random events.
+fn sparse(n: usize, m: usize) -> Table {
+    let mut table = Table::new(single(n)).with(m, OUTPUT, HIGH, |_, _| 0);
+    let dice = &mut Dice(1);
+    for s in (0..n).chain(0..n) {
+        table.events[dice.below(m)].rows[s] |= 1 << dice.below(n);
+    }
+    table
+}
 
 fn full(classes: Vec<u8>, m: usize, kind: u8, level: u8) -> Table {
     let n = classes.len();
@@ -175,7 +208,7 @@ fn mixed(n: usize, m: usize) -> Table {
     table
 }
 
-/// Two quiet lines side by side; the other events stay.
+/// Two silent lines side by side; the other events stay.
 fn twin(n: usize, m: usize) -> Table {
     let half = n / 2;
     let step = move |_, s| if s < half { line(s, half) } else { line(s, n) };
@@ -205,7 +238,7 @@ fn late3(n: usize, m: usize) -> Table {
     table
 }
 
-/// The last quiet event leads out of the last state's class; the state before it has no step.
+/// The last silent event leads out of the last state's class; the state before it has no step.
 fn late4(n: usize, m: usize) -> Table {
     let mut table = Table::new(last_two(n)).with(m, OUTPUT, HIGH, |_, s| if s < n - 2 { span(0..n - 2) } else { 0 });
     *table.last_row(1) = 1 << (n - 3);
@@ -230,12 +263,26 @@ fn tiny2() -> Table {
     Table::new(single(2)).with(1, INPUT, HIGH, |_, s| 2 >> s).with(1, OUTPUT, LOW, |_, s| 1 << s)
 }
 
+/// Two states of one class: a silent event leads from the first to the second.
+fn tiny3() -> Table {
+    up(2, 1)
+}
+
 pub fn checks(ns: &[usize], ms: &[usize]) -> Vec<One> {
+    sized("tiny", FAMILIES, ns, ms)
+}
+
+pub fn closures(ns: &[usize], ms: &[usize]) -> Vec<One> {
+    sized("closure tiny", CLOSURES, ns, ms)
+}
+
+/// The tiny records, then each family in its sizes.
+fn sized(tiny: &'static str, families: &[Family], ns: &[usize], ms: &[usize]) -> Vec<One> {
     let mut ones = Vec::new();
-    for (family, table) in [("tiny", tiny1()), ("tiny", tiny2())] {
-        ones.push(One { family, n: table.n(), m: table.events.len(), answer: 0, record: table.record() });
+    for table in [tiny1(), tiny2(), tiny3()] {
+        ones.push(One { family: tiny, n: table.n(), m: table.events.len(), answer: 0, record: table.record() });
     }
-    for &(family, answer, make) in FAMILIES {
+    for &(family, answer, make) in families {
         for &n in ns {
             for &m in ms {
                 ones.push(One { family, n, m, answer, record: make(n, m).record() });
@@ -248,7 +295,7 @@ pub fn checks(ns: &[usize], ms: &[usize]) -> Vec<One> {
 pub fn joins() -> Vec<Pair> {
     let mut list = Vec::new();
     let mut push = |name: &str, answer, a: &Table, b: &Table| {
-        list.push(Pair { name: name.to_string(), answer, a: a.record(), b: b.record() });
+        list.push(Pair { name: name.to_string(), n: a.n() * b.n(), answer, a: a.record(), b: b.record() });
     };
     push("tiny x tiny", 0, &tiny1(), &tiny1());
     push("tiny 2 x 1, one shared", 0, &tiny2(), &reader());

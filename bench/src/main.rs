@@ -1,6 +1,8 @@
 //! Times the proved library beside the unverified versions.
 
 mod agree;
+mod closure;
+mod dice;
 mod fast;
 mod inputs;
 mod proved;
@@ -42,6 +44,10 @@ impl Line {
     fn ratio(&self, version: usize) -> f64 {
         self.times[0].best / self.times[version].best
     }
+
+    fn ratio_to_faster(&self) -> f64 {
+        self.ratio(1).max(self.ratio(2))
+    }
 }
 
 /// One way to do the job.
@@ -49,28 +55,34 @@ pub struct Version {
     pub name: &'static str,
     pub check: fn(&[u8]) -> u32,
     pub join: fn(&[u8], &[u8], &mut [u8]) -> u32,
+    pub closure: fn(&[u8], &mut [u8]) -> u32,
 }
 
 /// The proved library first.
 pub static VERSIONS: [Version; 3] = [
-    Version { name: "library", check: proved::check, join: proved::join },
-    Version { name: "plain", check: fast::check_plain, join: fast::join_plain },
-    Version { name: "sharp", check: fast::check_sharp, join: fast::join_sharp },
+    Version { name: "library", check: proved::check, join: proved::join, closure: proved::closure },
+    Version { name: "plain", check: fast::check_plain, join: fast::join_plain, closure: fast::closure_plain },
+    Version { name: "sharp", check: fast::check_sharp, join: fast::join_sharp, closure: fast::closure_sharp },
 ];
 
-/// The longest record has so many bytes.
+/// The longest record has so many bytes; all closures have fewer.
 const LONGEST: usize = 16_586;
+
+/// From so many states on a record is not tiny.
+const SMALL: usize = 8;
 
 fn main() {
     let flags = flags();
     let (ns, ms): (&[usize], &[usize]) = if flags.quick { (&[8, 64], &[8, 32]) } else { (&[8, 16, 32, 64], &[8, 16, 32]) };
     let mut ones = inputs::checks(ns, ms);
     let mut pairs = inputs::joins();
+    let mut closures = inputs::closures(ns, ms);
     ones.retain(|one| one.name().contains(&flags.only));
     pairs.retain(|pair| pair.name.contains(&flags.only));
+    closures.retain(|one| one.name().contains(&flags.only));
 
     if let Some(calls) = flags.spin {
-        spin(&ones, &pairs, calls);
+        spin(&ones, &pairs, &closures, calls);
         return;
     }
 
@@ -78,20 +90,22 @@ fn main() {
         // Where it is missing, better now than after the timing.
         run(program, &[]);
     }
-    compare(&ones, &pairs, if flags.quick { 1_000 } else { 5_000 });
+    compare(&ones, &pairs, &closures, if flags.quick { 1_000 } else { 5_000 });
     let plan = Plan { batch: Duration::from_millis(1), rounds: if flags.quick { 5 } else { 15 } };
     println!();
     println!("hookup_check lies at {} mod 64.", proved::place());
     println!("Nanoseconds for a call, best (median) of {} rounds; each ratio is the library's best by the version's best", plan.rounds);
     let checks = time_checks(plan, &ones);
     let joins = time_joins(plan, &pairs);
+    let closures = time_closures(plan, &closures);
     if flags.only.is_empty() {
-        growth(&checks, ns, ms);
+        growth(checks.iter().chain(&closures), ns, ms);
     }
     if let Some(program) = &flags.verdict {
         end_to_end(program, &ones, if flags.quick { 50 } else { 300 });
     }
-    sum_up(&checks, &joins);
+    by_family(&checks, &joins, &closures);
+    sum_up(&checks, &joins, &closures);
 }
 
 fn flags() -> Flags {
@@ -116,12 +130,12 @@ fn usage(message: &str) -> ! {
 }
 
 /// Ends the run where an answer or a byte differs.
-fn compare(ones: &[One], pairs: &[Pair], rounds: usize) {
+fn compare(ones: &[One], pairs: &[Pair], closures: &[One], rounds: usize) {
     let mut score = Score::new();
-    score.timed(ones, pairs);
+    score.timed(ones, pairs, closures);
     score.random(1, rounds);
     println!("Compared with the library, as answer:times");
-    for (call, counts) in [("check", &score.checks), ("join", &score.joins)] {
+    for (call, counts) in [("check", &score.checks), ("join", &score.joins), ("closure", &score.closures)] {
         let parts: Vec<String> = counts.iter().map(|(answer, times)| format!("{answer}:{times}")).collect();
         println!("  {} {call}s  {}", counts.values().sum::<usize>(), parts.join(" "));
     }
@@ -131,13 +145,16 @@ fn compare(ones: &[One], pairs: &[Pair], rounds: usize) {
     }
 }
 
-fn spin(ones: &[One], pairs: &[Pair], calls: usize) {
+fn spin(ones: &[One], pairs: &[Pair], closures: &[One], calls: usize) {
     for one in ones {
         repeat_check(&VERSIONS[0], &one.record, calls);
     }
     let mut out = vec![0; LONGEST];
     for pair in pairs {
         repeat_join(&VERSIONS[0], pair, &mut out, calls);
+    }
+    for one in closures {
+        repeat_closure(&VERSIONS[0], &one.record, &mut out, calls);
     }
 }
 
@@ -153,6 +170,12 @@ fn repeat_join(version: &Version, pair: &Pair, out: &mut [u8], calls: usize) {
     }
 }
 
+fn repeat_closure(version: &Version, record: &[u8], out: &mut [u8], calls: usize) {
+    for _ in 0..calls {
+        black_box((version.closure)(black_box(record), black_box(out)));
+    }
+}
+
 fn time_check(plan: Plan, record: &[u8]) -> [Time; 3] {
     race(plan, VERSIONS.each_ref().map(|version| move |calls| repeat_check(version, record, calls)))
 }
@@ -165,20 +188,34 @@ fn time_join(plan: Plan, pair: &Pair) -> [Time; 3] {
     race(plan, VERSIONS.each_ref().map(job))
 }
 
+fn time_closure(plan: Plan, record: &[u8]) -> [Time; 3] {
+    let job = |version| {
+        let mut out = vec![0; LONGEST];
+        move |calls| repeat_closure(version, record, &mut out, calls)
+    };
+    race(plan, VERSIONS.each_ref().map(job))
+}
+
 fn time_checks(plan: Plan, ones: &[One]) -> Vec<Line> {
     heading("check");
-    let time = |one: &One| {
-        let line = Line { name: one.name(), family: one.family, n: one.n, m: one.m, times: time_check(plan, &one.record) };
-        show(&line, &one.answer.to_string());
-        line
-    };
-    ones.iter().map(time).collect()
+    ones.iter().map(|one| line_of(one, time_check(plan, &one.record))).collect()
+}
+
+fn time_closures(plan: Plan, ones: &[One]) -> Vec<Line> {
+    heading("closure");
+    ones.iter().map(|one| line_of(one, time_closure(plan, &one.record))).collect()
+}
+
+fn line_of(one: &One, times: [Time; 3]) -> Line {
+    let line = Line { name: one.name(), family: one.family, n: one.n, m: one.m, times };
+    show(&line, &one.answer.to_string());
+    line
 }
 
 fn time_joins(plan: Plan, pairs: &[Pair]) -> Vec<Line> {
     heading("join, and below it its two checks alone");
     let time = |pair: &Pair| {
-        let line = Line { name: pair.name.clone(), family: "join", n: 0, m: 0, times: time_join(plan, pair) };
+        let line = Line { name: pair.name.clone(), family: "join", n: pair.n, m: 0, times: time_join(plan, pair) };
         show(&line, &pair.answer.to_string());
         let (a, b) = (time_check(plan, &pair.a), time_check(plan, &pair.b));
         let sum = |k: usize| Time { best: a[k].best + b[k].best, median: a[k].median + b[k].median };
@@ -207,9 +244,9 @@ fn number(ns: f64) -> String {
 }
 
 /// The factor from each size to the next.
-fn growth(lines: &[Line], ns: &[usize], ms: &[usize]) {
-    let best: BTreeMap<_, _> = lines.iter().map(|line| ((line.family, line.n, line.m), line.times)).collect();
-    let mut families: Vec<&str> = lines.iter().map(|line| line.family).filter(|&family| family != "tiny").collect();
+fn growth<'a>(lines: impl Iterator<Item = &'a Line> + Clone, ns: &[usize], ms: &[usize]) {
+    let best: BTreeMap<_, _> = lines.clone().map(|line| ((line.family, line.n, line.m), line.times)).collect();
+    let mut families: Vec<&str> = lines.filter(|line| line.n >= SMALL).map(|line| line.family).collect();
     families.dedup();
     let (n, m) = (ns[ns.len() - 1], ms[ms.len() - 1]);
     let factors = |family: &'static str, version: usize, sizes: &[(usize, usize)]| -> String {
@@ -286,11 +323,11 @@ fn run(program: &Path, record: &[u8]) -> (Duration, String) {
     (start.elapsed(), String::from_utf8_lossy(&output.stdout).into_owned())
 }
 
-fn sum_up(checks: &[Line], joins: &[Line]) {
+fn by_family(checks: &[Line], joins: &[Line], closures: &[Line]) {
     println!();
     println!("Ratios by family: least, geometric mean, largest");
     println!("{:<20}{:<30}{:<30}", "", VERSIONS[1].name, VERSIONS[2].name);
-    let all: Vec<&Line> = checks.iter().chain(joins).collect();
+    let all: Vec<&Line> = checks.iter().chain(joins).chain(closures).collect();
     for group in all.chunk_by(|x, y| x.family == y.family) {
         let columns = [1, 2].map(|version| {
             let ratios = group.iter().map(|line| line.ratio(version));
@@ -299,18 +336,20 @@ fn sum_up(checks: &[Line], joins: &[Line]) {
         });
         println!("{:<20}{}", group[0].family, columns.concat());
     }
+}
 
+fn sum_up(checks: &[Line], joins: &[Line], closures: &[Line]) {
     println!();
     println!("Summary");
+    let calls = [("check", checks), ("join", joins), ("closure", closures)];
     for version in [1, 2] {
         let name = VERSIONS[version].name;
-        for (call, lines) in [("check", checks), ("join", joins)] {
-            let Some(worst) = lines.iter().max_by(|x, y| x.ratio(version).total_cmp(&y.ratio(version))) else {
+        for (call, lines) in calls {
+            let Some(worst) = largest(lines.iter(), |line| line.ratio(version)) else {
                 continue;
             };
             let above = lines.iter().filter(|line| line.ratio(version) > 1.5).count();
-            let (ratio, place, count) = (worst.ratio(version), &worst.name, lines.len());
-            println!("  {call} against {name}: largest ratio {ratio:.2} at {place}; above 1.5 at {above} of {count} inputs");
+            println!("  {call} against {name}: largest ratio {worst}; above 1.5 at {above} of {} inputs", lines.len());
         }
         let full: Vec<&Line> = checks.iter().filter(|line| line.family.starts_with("full")).collect();
         if let Some(n) = full.iter().map(|line| line.n).max() {
@@ -319,6 +358,20 @@ fn sum_up(checks: &[Line], joins: &[Line]) {
             println!("  check against {name}, full records: geometric mean of the ratios {mean:.2}, at n = {n} {at_most:.2}");
         }
     }
+    for (call, lines) in calls {
+        let (tiny, others): (Vec<&Line>, Vec<&Line>) = lines.iter().partition(|line| line.n < SMALL);
+        for (size, lines) in [(format!("{SMALL} states or more"), others), ("tiny".into(), tiny)] {
+            if let Some(worst) = largest(lines.into_iter(), Line::ratio_to_faster) {
+                println!("  {call} against the faster of the two, {size}: largest ratio {worst}");
+            }
+        }
+    }
+}
+
+/// The largest ratio and where it is.
+fn largest<'a>(lines: impl Iterator<Item = &'a Line>, ratio: impl Fn(&Line) -> f64) -> Option<String> {
+    let worst = lines.max_by(|x, y| ratio(x).total_cmp(&ratio(y)))?;
+    Some(format!("{:.2} at {}", ratio(worst), worst.name))
 }
 
 /// The geometric mean of the ratios.

@@ -1,2 +1,4 @@
 pub mod Search
 pub mod Truth
+pub mod Paths
+pub mod Visits

@@ -1,15 +1,15 @@
 -- The laws of bounded searches: what an answer tells of each number below the bound, and how a loop that has searched
 -- below i goes on.
-use Prim.Native.Nat.{ℕ, zero, suc, _+_, _<_}
+use Prim.Native.Nat.{ℕ, zero, suc, _+_, _≤_, _<_}
 use mathlib.Core.Path.{_≡_, refl, sym, ap, _∙_, subst}
-use mathlib.Core.Bool.{Bool, true, false, not, _||_, _&&_, or-true, or-false}
+use mathlib.Core.Bool.{Bool, true, false, not, _||_, _&&_, cond, or-true, or-false}
 use mathlib.Core.Option.{Option, none, some}
 use mathlib.Core.Logic.{_⊎_, inl, inr, ⊎-elim}
-use native.Mathlib.Nat.{eq-or-lt-of-le, le-of-suc-le-suc, not-suc-le-zero, lt-suc-self, le-step}
+use native.Mathlib.Nat.{eq-or-lt-of-le, le-of-suc-le-suc, not-suc-le-zero, lt-suc-self, le-step, add-zero}
 use native.Mathlib.Numerals.{add-one}
 use native.Mathlib.Omega.{arith}
 use lib.Dec.{T}
-use Rattle.bounded.specs.Search.{any, all, or-else, first}
+use Rattle.bounded.specs.Search.{any, all, or-else, first, least, count}
 
 -- ---- tests
 
@@ -184,6 +184,45 @@ module _ {A : Type 0} (f : ℕ → Option A) where
       (λ l. rw (first-at n a (record { at = w .at; below = l; found = w .found; before = w .before })))
       (last-or-below (w .below))
 
+-- ---- the least number that passes a test
+
+-- t is below n and passes, and no number before it does.
+pub record LeastAt (n : ℕ) (f : ℕ → Bool) (t : ℕ) : Type 0 where
+  pub below : t < n
+  pub passing : f t ≡ true
+  pub before : (j : ℕ) → j < t → f j ≡ false
+
+picked : (b : Bool) (i t : ℕ) → cond b (some i) none ≡ some t → (b ≡ true) × (i ≡ t)
+picked true i t e = (refl, ap (λ (o : Option ℕ). elim o [ none ↦ i | some j ↦ j ]) e)
+picked false i t e = absurd (let z : _≡_ {A = ℕ} 0 1 = cc in omega arith)
+
+unpicked : (b : Bool) (i : ℕ) → _≡_ {A = Option ℕ} (cond b (some i) none) none → b ≡ false
+unpicked true i e = absurd (let z : _≡_ {A = ℕ} 0 1 = cc in omega arith)
+unpicked false i e = refl
+
+module _ (n : ℕ) (f : ℕ → Bool) where
+  pub least-found : (t : ℕ) → least n f ≡ some t → LeastAt n f t
+  unfolding least
+  least-found t e =
+      let w = first-found _ n t e in
+      let (passing, same) = picked _ _ _ (w .found) in
+      subst (LeastAt n f) same
+      (record { below = w .below; passing = passing; before = λ j l. unpicked _ j (w .before j l) })
+
+  pub least-none : least n f ≡ none → (i : ℕ) → i < n → f i ≡ false
+  unfolding least
+  least-none e i h = unpicked _ i (first-none _ n e i h)
+
+  pub least-at : (t : ℕ) → LeastAt n f t → least n f ≡ some t
+  unfolding least
+  least-at t w =
+      first-at _ n t
+      (record { at = t; below = w .below; found = rw (w .passing); before = λ j l. rw (w .before j l) })
+
+  pub least-nothing : ((i : ℕ) → i < n → f i ≡ false) → least n f ≡ none
+  unfolding least
+  least-nothing h = first-nothing _ n (λ i l. rw (h i l))
+
 -- ---- a loop that searches, written as its answer: found at i, or i has come to the bound
 module _ (f : ℕ → Bool) where
   pub scan-hit : (n i : ℕ) → i < n → f i ≡ true → true ≡ any n f
@@ -245,3 +284,42 @@ module _ (n : ℕ) (f g : ℕ → Bool) where
 
   pub both-at : (i : ℕ) → i < n → f i ≡ true → g i ≡ true → any n (λ i. f i && g i) ≡ true
   both-at i h p q = any-at _ n i h (and-now _ _ p ∙ q)
+
+-- ---- how many pass
+
+pub count-le : (n : ℕ) (f : ℕ → Bool) → count n f ≤ n
+unfolding count
+count-le zero f = omega arith
+count-le (suc n) f = more (f n) (count n f) (count-le n f)
+  where
+    more : (b : Bool) (k : ℕ) → k ≤ n → k + cond b 1 0 ≤ suc n
+    more true k h = omega arith
+    more false k h = omega arith
+
+pub count-same : (n : ℕ) (f g : ℕ → Bool) → ((i : ℕ) → i < n → f i ≡ g i) → count n f ≡ count n g
+unfolding count
+count-same zero f g h = refl
+count-same (suc n) f g h = rw (count-same n f g (λ i l. h i (le-step l)), h n (lt-suc-self n))
+
+pub count-none : (n : ℕ) → count n (λ i. false) ≡ 0
+unfolding count
+count-none zero = refl
+count-none (suc n) = rw (count-none n)
+
+-- One number more passes.
+pub count-more : (n : ℕ) (f g : ℕ → Bool) (t : ℕ) → t < n → f t ≡ false → g t ≡ true
+    → ((i : ℕ) → (i ≡ t → ⊥) → f i ≡ g i)
+    → count n g ≡ suc (count n f)
+unfolding count
+count-more zero f g t h p q same = absurd (not-suc-le-zero h)
+count-more (suc n) f g t h p q same =
+    ⊎-elim
+    (λ e.
+    let rest : count n f ≡ count n g = count-same n f g (λ i l. same i (λ z. omega arith)) in
+    let top : f n ≡ false = subst (λ (k : ℕ). f k ≡ false) e p in
+    let top' : g n ≡ true = subst (λ (k : ℕ). g k ≡ true) e q in
+    rw (top, top', rest) (add-one _ ∙ ap suc (sym (add-zero _))))
+    (λ l.
+    let rest : count n g ≡ suc (count n f) = count-more n f g t l p q same in
+    rw (rest, same n (λ z. omega arith)) (omega arith))
+    (last-or-below h)

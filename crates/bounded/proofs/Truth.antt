@@ -1,12 +1,12 @@
 -- What a test says: the laws of tests that are joined, denied, or tried on every number below a bound. Each takes what
 -- its parts say.
-use Prim.Native.Nat.{ℕ, zero, suc, _<_}
+use Prim.Native.Nat.{ℕ}
 use mathlib.Core.Path.{_≡_}
 use mathlib.Core.Bool.{Bool, true, false, not, _||_, _&&_}
-use mathlib.Core.Logic.{_↔_, _⊎_, inl, inr, ⊎-elim, Iff·rfl}
+use mathlib.Core.Logic.{_↔_, _⊎_, inl, inr, ⊎-elim}
 use borrow.Author.Tests.{eq-eqb}
 use lib.Dec.{T, T-not, not-T, eqb, eqb→eq}
-use Rattle.bounded.specs.Search.{any}
+use Rattle.bounded.specs.Search.{Below, any}
 use Rattle.bounded.proofs.Search.{any-at, any-found, passed, passes}
 
 pub eqb-iff : (m n : ℕ) → T (eqb m n) ↔ (m ≡ n)
@@ -34,10 +34,6 @@ not-not true p n = p .0 tt
 not-not false p n = absurd (n (p .1))
 
 -- ---- some number below a bound
-
--- A number below n.
-abbrev pub Below : ℕ → Type 0
-Below n = (i : ℕ) × (i < n)
 
 any-passes : (n : ℕ) (f : ℕ → Bool) → T (any n f) → (i : Below n) × T (f (i .0))
 any-passes n f t = let (i, h, e) = any-found n f (passed _ t) in ((i, h), passes e)

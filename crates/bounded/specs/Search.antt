@@ -1,8 +1,12 @@
 -- Searches over the numbers below a bound. They compute, try 0, 1, 2, .. in that order, and a loop that has tried the numbers below i has
 -- computed exactly the search below i.
-use Prim.Native.Nat.{ℕ, zero, suc}
-use mathlib.Core.Bool.{Bool, true, false, _||_, _&&_}
+use Prim.Native.Nat.{ℕ, zero, suc, _+_, _<_}
+use mathlib.Core.Bool.{Bool, true, false, _||_, _&&_, cond}
 use mathlib.Core.Option.{Option, none, some}
+
+-- A number below n.
+abbrev pub Below : ℕ → Type 0
+Below n = (i : ℕ) × (i < n)
 
 -- Some number below n passes the test.
 unfoldable pub any : ℕ → (ℕ → Bool) → Bool
@@ -24,3 +28,12 @@ unfoldable pub first {ℓ} : {A : Type ℓ} → ℕ → (ℕ → Option A) → O
 unfolding or-else
 first zero find = none
 first (suc n) find = or-else (first n find) (find n)
+
+-- The least number below n that passes the test.
+unfoldable pub least : ℕ → (ℕ → Bool) → Option ℕ
+least n test = first n (λ i. cond (test i) (some i) none)
+
+-- How many numbers below n pass the test.
+unfoldable pub count : ℕ → (ℕ → Bool) → ℕ
+count zero test = 0
+count (suc n) test = count n test + cond (test n) 1 0

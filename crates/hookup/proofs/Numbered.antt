@@ -4,20 +4,18 @@ use mathlib.Core.Path.{_≡_, _∙_}
 use mathlib.Core.List.{List}
 use Rattle.restrictive.specs.Verdict.{Violation, Verdict, breaks}
 use Rattle.restrictive.proofs.Theorems.{break-rule}
-use Rattle.composite.specs.declared.answer.Joining.{Joining as Answer}
-use Rattle.composite.specs.Answers.{joining-of}
-use Rattle.composite.specs.Joining.{Side, Joining, unfit, joining, buffer-after}
+use Rattle.composite.specs.Joining.{Side, unfit, joining}
 use Rattle.join.proofs.JoinAnswers.{unfit-verdict}
-use Rattle.hookup.specs.Numbers.{join-number}
 
 -- A break that Join names is a break of one of the records.
 pub unfit-rule : (a b : List ℕ) (room : ℕ) (side : Side) (v : Verdict)
     → joining a b room ≡ unfit side v → (w : Violation) → v ≡ breaks w → w .rule ≤ 5
 unfit-rule a b room side v e w q = let c = unfit-verdict a b room side v e in break-rule (c .0) w (c .1 ∙ q)
 
--- What the call said in its own words, in those of the definition: it answered r, which is s.
-pub told : {r s : Answer} {answer : Joining} {k : ℕ} {now : List ℕ} (bytes out : List ℕ) → r ≡ s
-    → (joining-of r ≡ answer) × (now ≡ buffer-after (joining-of r) bytes out) → k ≡ join-number (joining-of s)
-    → (k ≡ join-number answer) × (now ≡ buffer-after answer bytes out)
-told bytes out e j p =
+-- What a call said in its own words, in those of the definition: it answered r, which is s.
+pub told : {R A : Type 0} (meaning : R → A) (number : A → ℕ) (after : A → List ℕ → List ℕ → List ℕ) {r s : R}
+    {answer : A} {k : ℕ} {now : List ℕ} (bytes out : List ℕ) → r ≡ s
+    → (meaning r ≡ answer) × (now ≡ after (meaning r) bytes out) → k ≡ number (meaning s)
+    → (k ≡ number answer) × (now ≡ after answer bytes out)
+told meaning number after bytes out e j p =
     let same = j .0 in (rw (← same, e) p, rw (← same) (j .1))

@@ -1,5 +1,6 @@
--- The one number that a call from C answers with (document 01, "The shelf").
+-- The one number that a call from C answers with (document 01, "The shelf"; request c).
 use Prim.Native.Nat.{ℕ, _+_}
+use mathlib.Core.Option.{Option, none, some}
 use Rattle.restrictive.specs.Verdict.{Verdict, pass, refused, breaks}
 use Rattle.composite.specs.Joining.{Obstacle, refusal, clash, Side, first-record, second-record, Joining, length-is, unfit, stopped}
 
@@ -23,3 +24,8 @@ unfoldable pub join-number : Joining → ℕ
 join-number (length-is n) = 0
 join-number (unfit side v) = side-number side + check-number v
 join-number (stopped o) = obstacle-number o
+
+-- 0 where nothing is refused, or the refusal's number.
+unfoldable pub closure-number : Option ℕ → ℕ
+closure-number none = 0
+closure-number (some k) = k

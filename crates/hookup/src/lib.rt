@@ -4,10 +4,13 @@ ghost use Prim.Native.Nat.{_≤_};
 ghost use lib.ListN.{length};
 ghost use Rattle.restrictive.specs.Verdict.{Violation, breaks, verdict};
 ghost use Rattle.restrictive.specs.Answers.{verdict-of};
+ghost use Rattle.closure.specs.Closures as closures;
 ghost use Rattle.composite.specs.Joined.{joined};
 ghost use Rattle.composite.specs.Joining.{joining, buffer-after};
 ghost use Rattle.composite.specs.Answers.{side-of, obstacle-of};
-ghost use Rattle.hookup.specs.Numbers.{check-number, side-number, obstacle-number, join-number};
+ghost use Rattle.hookup.specs.Numbers.{check-number, side-number, obstacle-number, join-number, closure-number};
+use closure::answer::Listing;
+use closure::call::list_closures;
 use composite::answer::Joining;
 use composite::answer::Obstacle;
 use composite::answer::Side;
@@ -68,5 +71,19 @@ pub extern "C" fn hookup_join<'a>(a: &'a [u8], b: &'a [u8], out: &mut [u8]) -> u
         Joining::Unfit(side, v) => side_number(side) + check_number(v),
         Joining::Stopped(o) => obstacle_number(o),
         Joining::NoRoom => 15,
+    }
+}
+
+// 0 where the closures of the record's states are written, or the refusal's number.
+#[no_mangle]
+pub extern "C" fn hookup_closure(bytes: &[u8], out: &mut [u8]) -> u32
+    ensures { λ k. ⌜ k ≡ closure-number (closures.refusal (now (bytes .entry)) (length (now (out .entry)))) ⌝ }
+    ensures { λ k. ⌜ now (out .exit) ≡ closures.buffer-after (closures.refusal (now (bytes .entry)) (length (now (out .entry)))) (closures.pieces (now (bytes .entry))) (now (out .entry)) ⌝ }
+{
+    let answer = list_closures(bytes, out);
+    match answer {
+        Listing::Written => 0,
+        Listing::Refused(r) => r.number(),
+        Listing::NoRoom => 15,
     }
 }

@@ -1,4 +1,4 @@
-pub mod PieceTurn
+pub mod MergedList
 pub mod RowLaws
 pub mod HeadEntries
 pub mod PieceOrder

@@ -3,5 +3,8 @@ pub mod Sorted
 pub mod Roles
 pub mod Concerned
 pub mod StepRows
+pub mod Searches
+pub mod SilentReach
+pub mod Theorems
 pub mod ClassRows
 pub mod ClassSeen

@@ -1,30 +1,37 @@
--- Which rules speak of an event: rule 1 of the inputs, and so of the events of rule 2 and rule 3; one of the rules 2 to
--- 5 of every event.
+-- Which rules speak of an event, by whether it is an input and whether it is low.
 use Prim.Native.Nat.{ℕ, zero, suc, _<_}
 use mathlib.Core.Path.{_≡_, refl, sym, _∙_}
-use mathlib.Core.Bool.{Bool, true, false, Bool·beq, _||_}
+use mathlib.Core.Bool.{Bool, true, false, not, Bool·beq, _&&_}
 use mathlib.Core.List.{List}
-use lib.Dec.{eqb, eqb·suc-zero, lit<}
+use lib.Dec.{eqb, eqb·suc-zero}
 use Rattle.bounded.specs.Search.{all}
 use Rattle.bounded.proofs.Search.{all-at}
 use Rattle.machine.specs.Machine.{Kind, input, output, internal}
-use Rattle.machine.specs.Roles.{Role, missing, low as low-role, high, at-level, role-of}
-use Rattle.machine.specs.Rules.{rule-1, rule-2, rule-3}
+use Rattle.machine.specs.Roles.{at-level, role-of}
+use Rattle.level.specs.Level.{low}
+use Rattle.part.specs.Record.{event-kind, level}
 use Rattle.part.specs.Events.{kind-of}
-use Rattle.relations.specs.Sets.{concerns, rule-by, rule-of}
+use Rattle.relations.specs.Sets.{concerns}
 use Rattle.relations.specs.Relations.{role-at, rule-at}
+
+-- Rule k + 1 speaks of an input, or another event, that is low or not.
+abbrev pub speaks : ℕ → Bool → Bool → Bool
+speaks zero is-input is-low = is-input
+speaks (suc zero) is-input is-low = is-input && not is-low
+speaks (suc (suc zero)) is-input is-low = is-input && is-low
+speaks (suc (suc (suc zero))) is-input is-low = not is-low && not is-input
+speaks (suc (suc (suc (suc k)))) is-input is-low = is-low && not is-input
 
 abbrev of-input : Kind → Bool
 of-input input = true
 of-input output = false
 of-input internal = false
 
--- rule k + 2 speaks of the role, as the code tests it
 abbrev right : Kind → Bool → ℕ → Bool
-right kind l k = Bool·beq (concerns (rule-at (suc k)) (at-level kind l)) (eqb (rule-by (of-input kind) l) (suc k))
+right kind l k = Bool·beq (concerns (rule-at k) (at-level kind l)) (speaks k (of-input kind) l)
 
-all-right : (kind : Kind) (l : Bool) → all 4 (right kind l) ≡ true
-unfolding all rule-at at-level rule-by
+all-right : (kind : Kind) (l : Bool) → all 5 (right kind l) ≡ true
+unfolding all rule-at at-level
 all-right input true = refl
 all-right input false = refl
 all-right output true = refl
@@ -44,33 +51,9 @@ kind-input zero = refl
 kind-input (suc zero) = refl
 kind-input (suc (suc k)) = sym (eqb·suc-zero (suc k))
 
-input-role : (r : Role) → concerns rule-1 r ≡ (concerns rule-2 r || concerns rule-3 r)
-input-role missing = refl
-input-role (low-role input) = refl
-input-role (low-role output) = refl
-input-role (low-role internal) = refl
-input-role (high input) = refl
-input-role (high output) = refl
-input-role (high internal) = refl
-
-by-below : (p q : Bool) → rule-by p q < 5
-unfolding rule-by
-by-below true true = lit< tt
-by-below true false = lit< tt
-by-below false true = lit< tt
-by-below false false = lit< tt
-
-module _ (b : List ℕ) (l i : ℕ) where
-  pub rule-below : (k : ℕ) → k ≡ rule-of b l i → k < 5
-  rule-below k e = rw e (by-below _ _)
-
-  pub concerned-first : concerns (rule-at 0) (role-at b l i)
-      ≡ (concerns (rule-at 1) (role-at b l i) || concerns (rule-at 2) (role-at b l i))
-  unfolding rule-at
-  concerned-first = input-role (role-at b l i)
-
-  pub concerned-own : (k : ℕ) → k < 4 → concerns (rule-at (suc k)) (role-at b l i) ≡ eqb (rule-of b l i) (suc k)
-  unfolding role-at role-of
-  concerned-own k h =
-      beq-eq _ _ (all-at _ 4 (all-right _ _) k h)
-      ∙ rw (kind-input _)
+pub concerned-speaks : (b : List ℕ) (l i k : ℕ) → k < 5
+    → concerns (rule-at k) (role-at b l i) ≡ speaks k (eqb (event-kind b i) 0) (low l (level b i))
+unfolding role-at role-of
+concerned-speaks b l i k h =
+    beq-eq _ _ (all-at _ 5 (all-right (kind-of (event-kind b i)) (low l (level b i))) k h)
+    ∙ rw (kind-input (event-kind b i))

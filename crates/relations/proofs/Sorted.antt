@@ -13,7 +13,7 @@ use Rattle.words.specs.Sets.{union, single, Represents}
 use Rattle.words.proofs.Sets.{bit-zero, bit-union, bit-single}
 
 -- The numbers below i + 1 that pass a test are those below i, and i if it does.
-below-next : (f : ℕ → Bool) (i j : ℕ) → (ltb j (i + 1) && f j) ≡ (ltb j i && f j || eqb i j && f i)
+pub below-next : (f : ℕ → Bool) (i j : ℕ) → (ltb j (i + 1) && f j) ≡ (ltb j i && f j || eqb i j && f i)
 below-next f i j =
     elim (ℕ-discrete i j) [
       | yes e ↦ cc (lt-ltb j (i + 1) (omega arith), le-ltb j i (omega arith), eq-eqb i j e)

@@ -1,2 +1,4 @@
 pub mod Relations
 pub mod Sets
+pub mod Theorems
+pub mod Examples

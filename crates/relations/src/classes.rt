@@ -24,19 +24,19 @@ pub fn class_of(column: &[u8]) -> [u64; 64]
     sets
 }
 
-// By class, its states.
-fn states_of(column: &[u8]) -> [u64; 64]
+// Over empty sets: by class, its states. Lent and not returned, since the copy of a returned array shows on small records.
+fn put_states(out: &mut [u64; 64], column: &[u8])
     requires { ⌜ Partition (now column) ⌝ }
-    ensures { λ r. ⌜ StatesOf (length (now (column .entry))) (byte (now (column .entry))) r ⌝ }
+    requires { ⌜ now out ≡ replicate 64 0 ⌝ }
+    ensures { λ _. ⌜ StatesOf (length (now (column .entry))) (byte (now (column .entry))) (now (out .exit)) ⌝ }
 {
-    let mut sets = set::empties();
+    let sets = &mut out[..];
     let mut s = 0;
     while s < column.len() {
         let c = le::u8_at(column, s);
         sets[c] = set::union(sets[c], set::single(s));
         s += 1;
     }
-    sets
 }
 
 // By state, the states of its class.
@@ -44,7 +44,8 @@ pub fn class_mates(column: &[u8]) -> [u64; 64]
     requires { ⌜ Partition (now column) ⌝ }
     ensures { λ r. ⌜ ClassMates (length (now (column .entry))) (byte (now (column .entry))) r ⌝ }
 {
-    let states = states_of(column);
+    let mut states = set::empties();
+    put_states(&mut states, column);
     let mut sets = set::empties();
     let mut s = 0;
     while s < column.len() {
@@ -115,7 +116,8 @@ pub fn put_offered_states(out: &mut [u64; 64], column: &[u8], offers: &[u64; 64]
     requires { ⌜ Partition (now column) ⌝ }
     ensures { λ _. ⌜ Filled (sets-of (offered-states (length (now (column .entry))) (byte (now (column .entry))) (now (offers .entry)))) (length (now (column .entry))) (now (out .entry)) (now (out .exit)) ⌝ }
 {
-    let states = states_of(column);
+    let mut states = set::empties();
+    put_states(&mut states, column);
     let mut common = [18446744073709551615u64; 64];
     put_offered_classes(&mut common, column, offers);
     let words = &mut out[..];

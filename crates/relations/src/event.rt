@@ -1,12 +1,13 @@
 // The events of a record: which of them a rule speaks of, and where one leads.
-ghost use mathlib.Core.Path.{_≡_};
 ghost use Prim.Native.Nat.{ℕ, _<_};
+ghost use mathlib.Core.Bool.{_||_, _&&_};
+ghost use lib.Dec.{eqb};
 ghost use lib.ListN.{getD};
 ghost use Rattle.words.specs.Arrays.{Filled, sets-of};
-ghost use Rattle.words.specs.Sets.{gathered};
+ghost use Rattle.words.specs.Sets.{bit, Represents, gathered};
 ghost use Rattle.part.specs.Record.{states, events, row};
 ghost use Rattle.part.specs.Frame.{Framed};
-ghost use Rattle.relations.specs.Sets.{rule-by, rule-of, Concerned};
+ghost use Rattle.relations.specs.Sets.{Concerned};
 use level::Level;
 use part::Part;
 use words::set;
@@ -22,31 +23,15 @@ pub const RULE_4: usize = 3;
 
 pub const RULE_5: usize = 4;
 
-// The one of the rules 2 to 5 that speaks of an event: a high or low input, a high or low other event.
-fn rule_by(input: bool, low: bool) -> usize
-    ensures { λ r. ⌜ r ≡ rule-by input low ⌝ }
+// The set, and i with it where the test holds.
+fn mark(x: u64, i: usize, test: bool) -> u64
+    requires { ⌜ i < 64 ⌝ }
+    ensures { λ r. ⌜ Represents r (λ j. bit x j || eqb i j && test) ⌝ }
 {
-    if input {
-        if low {
-            return RULE_3;
-        }
-        return RULE_2;
+    if test {
+        return set::union(x, set::single(i));
     }
-    if low {
-        return RULE_5;
-    }
-    RULE_4
-}
-
-// The same of the event at place i.
-fn rule_of(b: &[u8], observer: u8, i: usize) -> usize
-    requires { ⌜ Framed (now b) ⌝ }
-    requires { ⌜ i < events (now b) ⌝ }
-    ensures { λ r. ⌜ r ≡ rule-of (now (b .entry)) observer i ⌝ }
-{
-    let input = Part::event_kind(b, i) == 0;
-    let low = Level::is_low(observer, Part::level(b, i));
-    rule_by(input, low)
+    x
 }
 
 // By rule, the set of the events that it speaks of.
@@ -55,14 +40,22 @@ pub fn concerned(b: &[u8], observer: u8) -> [u64; 5]
     ensures { λ r. ⌜ ((k : ℕ) → k < 5 → Concerned (now (b .entry)) observer k (getD r k 0)) ⌝ }
 {
     let m = Part::events(b);
-    let mut sets = [0u64; 5];
+    let mut inputs = 0;
+    let mut lows = 0;
+    let mut highs = 0;
     let mut i = 0;
     while i < m {
-        let k = rule_of(b, observer, i);
-        sets[k] = set::union(sets[k], set::single(i));
+        let low = Level::is_low(observer, Part::level(b, i));
+        inputs = mark(inputs, i, Part::event_kind(b, i) == 0);
+        lows = mark(lows, i, low);
+        highs = mark(highs, i, !low);
         i += 1;
     }
-    sets[RULE_1] = set::union(sets[RULE_2], sets[RULE_3]);
+    let mut sets = [inputs; 5];
+    sets[RULE_2] = set::intersection(inputs, highs);
+    sets[RULE_3] = set::intersection(inputs, lows);
+    sets[RULE_4] = set::difference(highs, inputs);
+    sets[RULE_5] = set::difference(lows, inputs);
     sets
 }
 

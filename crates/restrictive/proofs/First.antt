@@ -9,7 +9,7 @@ use native.Mathlib.Nat.{eq-or-lt-of-le}
 use native.Mathlib.Decide.{decLe}
 use native.Mathlib.Omega.{arith}
 use lib.Dec.{T}
-use Rattle.bounded.specs.Search.{first}
+use Rattle.bounded.specs.Search.{Below, first}
 use Rattle.bounded.proofs.Search.{first-none, first-nothing, first-found, first-at}
 use Rattle.part.specs.Record.{states, events, identifier, Observer}
 use Rattle.part.proofs.Rising.{Rises}
@@ -18,7 +18,6 @@ use Rattle.relations.specs.Relations.{rule-at}
 use Rattle.restrictive.specs.Verdict.{Violation, violation-at, state-violation, event-violation, rule-violation}
 use Rattle.restrictive.specs.Verdict.{first-violation}
 use Rattle.restrictive.specs.Theorems.{Before, smaller, equal, in-order}
-use Rattle.bounded.proofs.Truth.{Below}
 
 -- ---- the order of lists of numbers
 

@@ -1,7 +1,5 @@
 pub mod Scans
 pub mod Offers
-pub mod SilentReach
-pub mod SilentWithin
 pub mod OfferArrays
 pub mod Sameness
 pub mod EventScans

@@ -1,27 +1,24 @@
 -- The arrays that the code makes hold the classes that the rules ask about, and the states that they permit.
-use Prim.Native.Nat.{ℕ, zero, suc, _≤_, _<_}
+use Prim.Native.Nat.{ℕ, _≤_, _<_}
 use mathlib.Core.Path.{_≡_, refl, sym, ap, _∙_, subst}
-use mathlib.Core.Bool.{Bool, true, false, not, _||_, _&&_, or-false}
-use mathlib.Core.Logic.{⊎-elim}
+use mathlib.Core.Bool.{Bool, true, false, not, _||_, _&&_}
 use mathlib.Core.List.{List}
 use lib.ListN.{getD}
 use lib.Dec.{eqb}
 use borrow.Author.Tests.{eq-eqb, eqb-true, lt-ltb}
 use Rattle.bounded.specs.Search.{any}
-use Rattle.bounded.proofs.Search.{both-found, both-at, any-same, all-same, same-truth, and-now, and-left, and-right}
-use Rattle.bounded.proofs.Search.{is-false, or-now, or-then, true-or-false, true-not-false}
-use Rattle.machine.specs.Roles.{is-silent}
+use Rattle.bounded.proofs.Search.{both-found, both-at, any-same, all-same, same-truth, and-now}
 use Rattle.words.specs.Sets.{bit, Rows, gathered}
-use Rattle.words.proofs.Sets.{bit-zero, gathered-within}
+use Rattle.words.proofs.Sets.{gathered-within}
 use Rattle.part.specs.Record.{states, events, row, Observer}
 use Rattle.part.specs.Frame.{Framed}
-use Rattle.relations.specs.Relations.{role-at, leads, step-by, silent-step, via, reach-for, same-class, rule-at}
+use Rattle.relations.specs.Relations.{leads, reach-for, same-class, rule-at}
 use Rattle.restrictive.specs.Tests.{around}
 use Rattle.relations.specs.Sets.{RowsWithin, Concerned, ClassOf, ClassMates, offered, offered-states}
 use Rattle.restrictive.specs.Sets.{led-to, reached, offer, permits, Offers, Permitted, OfferedDirectly}
 use Rattle.restrictive.specs.Sets.{OfferedSilently}
 use Rattle.restrictive.proofs.Offers.{permits-own, eqb-swap}
-use Rattle.restrictive.proofs.SilentWithin.{reach-within}
+use Rattle.relations.proofs.SilentReach.{reach-alone, reach-within}
 
 -- ---- what gathering gives where the sets are known
 
@@ -67,25 +64,6 @@ any-self n u f h =
     subst (λ (w : ℕ). f w ≡ true) (sym (eqb-true u v same)) good)
     (λ e. both-at n (eqb u) f u h (eq-eqb u u refl) e)
 
-or-without : (p q : Bool) → q ≡ false → (p || q) ≡ p
-or-without p q e = ap (λ (x : Bool). p || x) e ∙ or-false p
-
--- ---- the closure that the code makes is the silent one
-
-via-same : (f g : ℕ → ℕ → Bool) → ((s t : ℕ) → f s t ≡ g s t) → (k s t : ℕ) → via f k s t ≡ via g k s t
-unfolding via
-via-same f g e zero s t = ap (λ (p : Bool). eqb s t || p) (e s t)
-via-same f g e (suc k) s t = rw (via-same f g e k s t, via-same f g e k s k, via-same f g e k k t) refl
-
-pub closure-reach : (b : List ℕ) (l silent : ℕ) (words : List ℕ) → Concerned b l 3 silent
-    → Rows (states b) words (via (step-by b (bit silent)) (states b)) → Rows (states b) words (reach-for b l)
-unfolding reach-for silent-step step-by rule-at
-closure-reach b l silent words of closed s h t =
-    closed s h t
-    ∙ via-same _ _ (λ u v.
-    any-same _ _ _ (λ i m.
-    ap (λ (p : Bool). p && leads b i u v) (of i ∙ and-now _ _ (lt-ltb _ _ m)))) (states b) s t
-
 -- ---- what states offer at an event
 
 -- the classes behind silent steps, the event and silent steps
@@ -112,7 +90,7 @@ module _ (b : List ℕ) (o : Observer) (framed : Framed b) (within : RowsWithin 
       → gathered 64 (getD closure s 0) table c ≡ any (states b) (λ t. reach-for b (o .level) s t && g t c)
   closure-as closure table g closed of s h =
       gathered-as (states b) (getD closure s 0) table (reach-for b (o .level) s) g (framed .few .most-states) (closed s h)
-      (λ t l. reach-within b (o .level) within t l s h) of
+      (λ t l. reach-within b (o .level) within s t h l) of
 
   -- the classes of the closure
   pub reached-classes : (closure own words : List ℕ) → Rows (states b) closure (reach-for b (o .level))
@@ -138,39 +116,13 @@ module _ (b : List ℕ) (o : Observer) (framed : Framed b) (within : RowsWithin 
 
   -- rule 5 without silent events: nothing but the event
   module _ (silent : ℕ) (of : Concerned b (o .level) 3 silent) (empty : silent ≡ 0) where
-    no-silent : (s t : ℕ) → silent-step b (o .level) s t ≡ false
-    unfolding silent-step step-by rule-at
-    no-silent s t =
-        is-false _ (λ e.
-        let (i, below, speaks, there) = both-found _ (λ i. is-silent (role-at b (o .level) i)) (λ i. leads b i s t) e in
-        let member : bit silent i ≡ true = of i ∙ and-now _ _ (lt-ltb _ _ below) ∙ speaks in
-        true-not-false member (ap (λ (x : ℕ). bit x i) empty ∙ bit-zero i))
-
-    via-self : (k s t : ℕ) → via (silent-step b (o .level)) k s t ≡ eqb s t
-    unfolding via
-    via-self zero s t = or-without _ _ (no-silent s t)
-    via-self (suc k) s t =
-        let step = silent-step b (o .level) in
-        same-truth _ _
-        (λ e.
-        ⊎-elim
-        (λ p. sym (via-self k s t) ∙ p)
-        (λ p.
-        let both = sym (or-then _ _ p) ∙ e in
-        eq-eqb s t
-        (eqb-true s k (sym (via-self k s k) ∙ and-left _ _ both)
-        ∙ eqb-true k t (sym (via-self k k t) ∙ and-right (via step k s k) _ both)))
-        (true-or-false _))
-        (λ e. or-now _ _ (via-self k s t ∙ e))
-
-    reach-alone : (s t : ℕ) → reach-for b (o .level) s t ≡ eqb s t
-    unfolding reach-for
-    reach-alone s t = via-self _ s t
+    alone : (s t : ℕ) → reach-for b (o .level) s t ≡ eqb s t
+    alone = reach-alone b (o .level) silent of empty
 
     reached-own : (q c : ℕ) → q < states b → reached b o q c ≡ eqb (o .class q) c
     unfolding reached
     reached-own q c h =
-        any-same _ _ _ (λ v l. ap (λ (p : Bool). p && eqb (o .class v) c) (reach-alone q v)) ∙ any-self _ q _ h
+        any-same _ _ _ (λ v l. ap (λ (p : Bool). p && eqb (o .class v) c) (alone q v)) ∙ any-self _ q _ h
 
     pub direct-alone : (own : List ℕ) → ClassOf (states b) (o .class) own → OfferedDirectly b o 4 own
     unfolding offer rule-at
@@ -179,7 +131,7 @@ module _ (b : List ℕ) (o : Observer) (framed : Framed b) (within : RowsWithin 
         ∙ sym (any-same _ _ _ (λ q l. ap (λ (r : Bool). leads b i s q && r) (reached-own q c l)))
         ∙ sym (any-self _ s _ h)
         ∙ sym (any-same _ _ _
-        (λ v l. ap (λ (r : Bool). r && any (states b) (λ q. leads b i v q && reached b o q c)) (reach-alone s v)))
+        (λ v l. ap (λ (r : Bool). r && any (states b) (λ q. leads b i v q && reached b o q c)) (alone s v)))
         ∙ around-classes b o i s c
 
 -- rule 4: the classes of the closure, whatever the event is

@@ -20,7 +20,7 @@ use Rattle.part.proofs.Places.{event-none}
 use Rattle.relations.specs.Relations.{role-at, leads, same-class, reach}
 use Rattle.restrictive.specs.Tests.{around, asks, answers, broken}
 use Rattle.bounded.proofs.Truth.{eqb-iff, and-iff, and-three-iff, not-iff, any-iff, any-both-iff}
-use Rattle.restrictive.proofs.SilentReach.{role-iff, leads-iff, reach-silent}
+use Rattle.relations.proofs.SilentReach.{role-iff, leads-iff, reach-silent}
 
 -- ---- classes
 

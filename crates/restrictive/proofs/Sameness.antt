@@ -10,40 +10,19 @@ use native.Mathlib.Omega.{arith}
 use lib.Dec.{eqb}
 use borrow.Author.Tests.{eq-eqb, lt-ltb}
 use Rattle.bounded.specs.Search.{any, first}
-use Rattle.bounded.proofs.Search.{any-at, first-none, first-nothing, or-now, or-then, and-now, not-refuted}
+use Rattle.bounded.proofs.Search.{any-at, first-none, first-nothing, and-now, not-refuted}
 use Rattle.bounded.proofs.Search.{true-or-false, true-not-false}
 use Rattle.machine.specs.Roles.{is-silent}
 use Rattle.words.specs.Sets.{bit}
 use Rattle.words.proofs.Sets.{bit-zero}
 use Rattle.part.specs.Record.{states, events, Observer}
-use Rattle.relations.specs.Relations.{role-at, leads, step-by, silent-step, via, reach-for, same-class, rule-at}
+use Rattle.relations.specs.Relations.{role-at, leads, step-by, silent-step, reach-for, same-class, rule-at}
+use Rattle.relations.proofs.SilentReach.{reach-self, reach-step}
 use Rattle.restrictive.specs.Tests.{around}
 use Rattle.restrictive.specs.Verdict.{event-violation, rule-violation, first-violation}
 use Rattle.relations.specs.Sets.{concerns, Concerned, AllDistinct, ClasswiseEqual}
 use Rattle.restrictive.specs.Sets.{led-to, reached, offer, Asked, Offers}
 use Rattle.restrictive.proofs.Offers.{broken-asked, not-led, none-at, none-by}
-
--- ---- the closure of a state has the state, and where a silent step leads
-
-module _ (b : List ℕ) (l : ℕ) where
-  via-keeps : (k s t : ℕ) → via (silent-step b l) 0 s t ≡ true → via (silent-step b l) k s t ≡ true
-  unfolding via
-  via-keeps zero s t e = e
-  via-keeps (suc k) s t e =
-      or-now _ _ (via-keeps k s t e)
-
-  pub reach-self : (s : ℕ) → reach-for b l s s ≡ true
-  unfolding reach-for via
-  reach-self s = via-keeps (states b) s s (or-now _ _ (eq-eqb s s refl))
-
-  pub reach-step : (s t : ℕ) → silent-step b l s t ≡ true → reach-for b l s t ≡ true
-  unfolding reach-for via
-  reach-step s t e =
-      via-keeps (states b) s t
-      (⊎-elim
-      (λ p. or-now (eqb s t) (silent-step b l s t) p)
-      (λ p. or-then (eqb s t) (silent-step b l s t) p ∙ e)
-      (true-or-false (eqb s t)))
 
 -- ---- a state answers its own steps
 

@@ -31,7 +31,8 @@ use Rattle.restrictive.specs.Theorems.{
   BreaksExactly,
   PassingHides,
 }
-use Rattle.bounded.proofs.Truth.{Below, not-not}
+use Rattle.bounded.specs.Search.{Below}
+use Rattle.bounded.proofs.Truth.{not-not}
 use Rattle.restrictive.proofs.Reflect.{answers-iff, broken-iff, asked-placed}
 use Rattle.restrictive.proofs.First.{Finds, finds-as, IsViolation, finds-violation}
 

@@ -4,13 +4,14 @@ use mathlib.Core.Bool.{Bool, true, false, _&&_}
 use mathlib.Core.List.{List}
 use lib.Dec.{eqb}
 use Rattle.bounded.specs.Search.{all, first, or-else}
+use Rattle.bounded.specs.Paths.{via}
 use Rattle.machine.specs.Roles.{at-level, role-of}
 use Rattle.words.specs.Sets.{bit}
 use Rattle.level.specs.Level.{rank, at-or-below, low}
 use Rattle.part.specs.Record.{observer}
 use Rattle.part.specs.Computed.{rejected-with}
 use Rattle.part.specs.Events.{kind-of}
-use Rattle.relations.specs.Relations.{role-at, leads, same-class, step-by, silent-step, via, reach-for, rule-at}
+use Rattle.relations.specs.Relations.{role-at, leads, same-class, step-by, silent-step, reach-for, rule-at}
 use Rattle.restrictive.specs.Tests.{around, asks, answers, broken}
 use Rattle.restrictive.specs.Verdict.{Violation, Verdict, pass, refused, breaks, violation-at, state-violation, event-violation, rule-violation, first-violation, by-rules, after-rejection, verdict}
 

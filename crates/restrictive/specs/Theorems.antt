@@ -1,17 +1,13 @@
 -- What is proved of the verdict, as statements over all bytes. Their proofs stand in proofs/ under the names in lower case.
-use Prim.Native.Nat.{ℕ, _≤_, _<_}
+use Prim.Native.Nat.{ℕ, _<_}
 use mathlib.Core.Path.{_≡_}
 use mathlib.Core.Logic.{_↔_}
 use mathlib.Core.List.{List, [], _∷_}
 use mathlib.Core.Bool.{true, false}
-use lib.Dec.{T}
 use Rattle.machine.specs.Rules.{Rule, rule-1, rule-2, rule-3, rule-4, rule-5, Restrictive, Broken}
-use Rattle.machine.specs.Silent.{Silent}
 use Rattle.machine.specs.Noninterference.{Noninterfering}
-use Rattle.part.specs.Record.{states}
 use Rattle.part.specs.Rejections.{Condition, conditions, Accepted}
 use Rattle.part.specs.Machine.{State, machine, observation}
-use Rattle.relations.specs.Relations.{reach}
 use Rattle.restrictive.specs.Verdict.{Violation, pass, refused, breaks, verdict}
 
 -- A record passes exactly if no rejection applies to it and its machine is restrictive with its own partition (demand 2).
@@ -58,12 +54,6 @@ abbrev pub BreaksExactly : Type 0
 BreaksExactly =
     (b : List ℕ) (v : Violation)
     → (verdict b ≡ breaks v) ↔ ((a : Accepted b) × Names b a v × ((w : Violation) → Names b a w → Before (in-order w) (in-order v) → ⊥))
-
--- What the closure set of a state holds: exactly the states that silent steps lead to from it, and nothing at n or above.
-abbrev pub ClosureExactly : Type 0
-ClosureExactly =
-    (b : List ℕ) (a : Accepted b) (s : State b)
-    → ((t : State b) → T (reach b (s .0) (t .0)) ↔ Silent (machine b a) (observation b) s t) × ((t : ℕ) → states b ≤ t → reach b (s .0) t ≡ false)
 
 -- A passing part hides its high inputs: generalized noninterference (demand 3, last sentence).
 abbrev pub PassingHides : Type 0

@@ -26,7 +26,7 @@ use relations::event::RULE_2;
 use relations::event::RULE_3;
 use relations::event::RULE_4;
 use relations::event::RULE_5;
-use relations::silent::closure;
+use relations::silent::closures;
 use words::set;
 
 // Rule 1. `inputs` is the set of the events that it speaks of.
@@ -224,7 +224,7 @@ fn with_silent(
     ensures { λ r. ⌜ found-of r ≡ first-violation (now (b .entry)) (observing observer (now (column .entry))) ⌝ }
 {
     let silent = concerned[RULE_4];
-    let closure = closure(b, silent);
+    let closure = closures(b, silent);
     let met = set::gather_each(column.len(), &closure, labels);
     let found = rule_4(b, observer, column, silent, &met, scratch);
     match found {

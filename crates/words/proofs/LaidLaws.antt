@@ -91,6 +91,16 @@ each-turn out at n k chunk h =
     ∙ sym (over-append _ at (each n chunk) (chunk n))
     ∙ ap (λ (i : ℕ). over out at (each i chunk)) (sym (add-one n))
 
+pub nothing-laid : (out : List ℕ) (at : ℕ) (piece : ℕ → List ℕ) → out ≡ over out at (each 0 piece)
+unfolding each over
+nothing-laid out at piece = refl
+
+-- One piece more is laid behind s pieces of k bytes each.
+pub piece-turn : (out : List ℕ) (at s k : ℕ) (piece : ℕ → List ℕ) → ((x : ℕ) → length (piece x) ≡ k)
+    → {before next bytes : List ℕ} {place : ℕ} → before ≡ over out at (each s piece) → place ≡ s * k → bytes ≡ piece s
+    → next ≡ over before (at + place) bytes → next ≡ over out at (each (s + 1) piece)
+piece-turn out at s k piece long laid there is e = e ∙ rw (laid, there, is) (each-turn out at s k piece (λ x l. long x))
+
 -- ---- pieces
 
 -- The law of Laid: two pieces one behind the other are laid as one.

@@ -4,7 +4,7 @@ use mathlib.Core.Path.{_≡_, refl, sym, ap, _∙_, subst}
 use mathlib.Core.Bool.{Bool, true, false, not, _||_, _&&_, cond}
 use mathlib.Core.Logic.{_↔_, ⊎-elim}
 use native.Mathlib.Nat.{div-one, div-eq-of-lt, mod-lt, lt-of-lt-of-le, pow-succ', zero-div, mod-eq-of-lt, one-mul}
-use native.Mathlib.Nat.{le-div-iff-mul-le, lt-of-not-le, le-step, lt-suc-self}
+use native.Mathlib.Nat.{le-div-iff-mul-le, lt-of-not-le, le-step, lt-suc-self, add-zero}
 use native.Mathlib.Numerals.{one-add, add-one}
 use native.Mathlib.Decide.{decLe, decLt, ℕ-discrete as decEq}
 use native.Mathlib.Omega.{arith}
@@ -12,14 +12,16 @@ use mathlib.Core.Bool.{and-true, and-false, or-true, or-false, or-assoc}
 use lib.Dec.{eqb, ltb, leb, lit<, eqb·suc-suc, eqb·zero-suc, eqb·suc-zero}
 use lib.Arith.{digits-mod}
 use lib.Pow.{shr-shr, pow-mono, pow-pos, pow-lt, field, mod-mod-pow, high, low}
-use lib.Bits.{bitAnd, bitOr, and-shr, or-shr, and-step, or-step, and-lt, or-lt, and-self}
+use lib.Bits.{bitAnd, bitOr, bitXor, differ, and-shr, or-shr, xor-shr, and-step, or-step, xor-step}
+use lib.Bits.{and-lt, or-lt, and-self}
 use lib.Count.{trailingZeros, under}
 use borrow.Author.Tests.{eqb-true, eq-eqb, ne-eqb, lt-ltb, le-ltb, leb-false, lt-leb, le-leb}
 use mathlib.Core.List.{List}
 use lib.ListN.{getD}
 use Rattle.bounded.proofs.Search.{any-at, any-found, same-truth, is-false, is-true, true-not-false, true-or-false}
 use Rattle.bounded.proofs.Search.{and-now, and-never, and-left, and-right, or-left, or-right, or-now, or-then}
-use Rattle.words.specs.Sets.{gathered, bit, union, intersection, single, lowest, without, exceeds, mask}
+use Rattle.words.specs.Sets.{gathered, bit, union, intersection, difference, single, lowest, without, exceeds}
+use Rattle.words.specs.Sets.{mask, Represents}
 
 -- ---- a bit at a time
 
@@ -68,6 +70,15 @@ and-digit (suc (suc p)) q hp hq = absurd (omega arith)
 and-digit zero (suc (suc q)) hp hq = absurd (omega arith)
 and-digit (suc zero) (suc (suc q)) hp hq = absurd (omega arith)
 
+differ-digit : (p q : ℕ) → p < 2 → q < 2 → eqb (differ p q) 1 ≡ cond (eqb q 1) (not (eqb p 1)) (eqb p 1)
+differ-digit zero zero hp hq = refl
+differ-digit zero (suc zero) hp hq = refl
+differ-digit (suc zero) zero hp hq = refl
+differ-digit (suc zero) (suc zero) hp hq = refl
+differ-digit (suc (suc p)) q hp hq = absurd (omega arith)
+differ-digit zero (suc (suc q)) hp hq = absurd (omega arith)
+differ-digit (suc zero) (suc (suc q)) hp hq = absurd (omega arith)
+
 pub bit-union : (x y t : ℕ) → bit (union x y) t ≡ (bit x t || bit y t)
 unfolding bit union
 bit-union x y t =
@@ -85,6 +96,30 @@ bit-intersection x y t =
     ap (λ (z : ℕ). eqb (z % 2) 1) (and-shr x y t ∙ and-step a b)
     ∙ ap (λ (z : ℕ). eqb z 1) (digits-mod (bitAnd (a / 2) (b / 2)) (omega (arith, digit a, digit b)))
     ∙ and-digit _ _ (digit a) (digit b)
+
+bit-xor : (x y t : ℕ) → bit (bitXor x y) t ≡ cond (bit y t) (not (bit x t)) (bit x t)
+unfolding bit
+bit-xor x y t =
+    let a = x / 2 ^ t in
+    let b = y / 2 ^ t in
+    ap (λ (z : ℕ). eqb (z % 2) 1) (xor-shr x y t ∙ xor-step a b)
+    ∙ ap (λ (z : ℕ). eqb z 1) (digits-mod (bitXor (a / 2) (b / 2)) (differ-lt _ _ (digit a) (digit b)))
+    ∙ differ-digit _ _ (digit a) (digit b)
+  where
+    differ-lt : (p q : ℕ) → p < 2 → q < 2 → differ p q < 2
+    differ-lt zero q hp hq = hq
+    differ-lt (suc p) zero hp hq = hp
+    differ-lt (suc zero) (suc q) hp hq = omega arith
+    differ-lt (suc (suc p)) (suc q) hp hq = absurd (omega arith)
+
+pub bit-difference : (x y t : ℕ) → bit (difference x y) t ≡ (bit x t && not (bit y t))
+unfolding difference intersection
+bit-difference x y t = bit-xor x (bitAnd x y) t ∙ rw (bit-intersection x y t) (taken (bit x t) (bit y t))
+  where
+    taken : (p q : Bool) → cond (p && q) (not p) p ≡ (p && not q)
+    taken true true = refl
+    taken true false = refl
+    taken false q = refl
 
 pub bit-single : (t u : ℕ) → bit (single t) u ≡ eqb t u
 unfolding single
@@ -225,6 +260,23 @@ pub mask-same : (n : ℕ) (f g : ℕ → Bool) → ((t : ℕ) → t < n → f t 
 unfolding mask
 mask-same zero f g h = refl
 mask-same (suc n) f g h = rw (mask-same n f g (λ t l. h t (le-step l)), h n (lt-suc-self n))
+
+-- A word is the set of the numbers that it represents, where they are below k.
+pub represents-mask : (k x : ℕ) (test : ℕ → Bool) → ((t : ℕ) → k ≤ t → test t ≡ false) → Represents x test
+    → x ≡ mask k test
+represents-mask k x test none told =
+    same-members k x _ (all-below k x (λ t l. told t ∙ none t l)) (mask-lt k test) (λ t l.
+    told t ∙ sym (bit-mask k test t ∙ and-now _ _ (lt-ltb t k l)))
+
+-- No number from n on passes, so that a wider bound finds no more.
+pub mask-wider : (n m : ℕ) (test : ℕ → Bool) → n ≤ m → ((t : ℕ) → n ≤ t → test t ≡ false) → mask m test ≡ mask n test
+unfolding mask
+mask-wider n zero test h none = let e : 0 ≡ n = omega arith in ap (λ (k : ℕ). mask k test) e
+mask-wider n (suc m) test h none =
+    elim (decEq n (suc m)) [
+      | yes e ↦ ap (λ (k : ℕ). mask k test) (sym e)
+      | no e ↦ rw (none m (omega arith)) (add-zero _ ∙ mask-wider n m test (omega arith) none)
+    ]
 
 -- `exceeds n x` is false exactly where all members of x are below n.
 pub within-members : (n x : ℕ) → exceeds n x ≡ false → (t : ℕ) → n ≤ t → bit x t ≡ false

@@ -6,7 +6,7 @@ use mathlib.Core.List.{List}
 use lib.ListN.{getD}
 use lib.Dec.{eqb, leb}
 use Rattle.bounded.specs.Search.{any}
-use lib.Bits.{bitAnd, bitOr}
+use lib.Bits.{bitAnd, bitOr, bitXor}
 use lib.Count.{trailingZeros}
 
 -- t is a member of x.
@@ -20,6 +20,10 @@ union x y = bitOr x y
 -- The members of x that y has too.
 unfoldable pub intersection : ℕ → ℕ → ℕ
 intersection x y = bitAnd x y
+
+-- The members of x that y does not have.
+unfoldable pub difference : ℕ → ℕ → ℕ
+difference x y = bitXor x (bitAnd x y)
 
 -- The set of t alone.
 unfoldable pub single : ℕ → ℕ

@@ -8,6 +8,7 @@ mod lines;
 mod pairs;
 mod passing;
 mod scripts;
+mod shapes;
 
 pub use breaks::{breaking, changed_steps, damaged_out_of_reach, small_random_table, Place, Wanted, PLACES};
 pub use damages::{bad_record, damage, mangled, random_bytes};
@@ -20,3 +21,4 @@ pub use passing::{
     LITTLE_QUIET, SOME_QUIET,
 };
 pub use scripts::{calls, capacity_needed, hookup_calls, session, Script};
+pub use shapes::{shaped, steps_of_shape, with_near_levels, with_quiet_steps, Shape, SHAPES};

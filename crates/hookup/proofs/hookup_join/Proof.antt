@@ -1,5 +1,6 @@
 use mathlib.Core.Path.{refl, sym, ap, _∙_}
 use native.Mathlib.Omega.{arith}
+use Rattle.composite.specs.Joining.{buffer-after}
 use Rattle.composite.specs.Answers.{joining-of}
 use Rattle.hookup.specs.Numbers.{obstacle-number, join-number}
 use Rattle.hookup.proofs.Numbered.{unfit-rule, told}
@@ -42,7 +43,8 @@ same-length c = search needs
 
 returns : tie.Need-returns
 unfolding join-number joining-of
-returns c = told _ _ (c .enum-told .given .1) (c .before .before .before .before .join .ensures) refl
+returns c = told joining-of join-number buffer-after _ _ (c .enum-told .given .1)
+    (c .before .before .before .before .join .ensures) refl
 
 same-length-2 : tie.Need-same-length-2
 same-length-2 c = search needs
@@ -50,7 +52,7 @@ same-length-2 c = search needs
 returns-2 : tie.Need-returns-2
 unfolding join-number joining-of
 returns-2 c =
-    told _ _ (c .before .before .before .answer .given .1)
+    told joining-of join-number buffer-after _ _ (c .before .before .before .answer .given .1)
     (c .before .before .before .before .before .before .before .join .ensures)
     (cc (c .before .side-number .ensures .0, c .check-number .ensures .0))
 
@@ -60,7 +62,8 @@ same-length-3 c = search needs
 returns-3 : tie.Need-returns-3
 unfolding join-number joining-of
 returns-3 c =
-    told _ _ (c .before .before .answer2 .given .1) (c .before .before .before .before .before .before .join .ensures)
+    told joining-of join-number buffer-after _ _ (c .before .before .answer2 .given .1)
+    (c .before .before .before .before .before .before .join .ensures)
     (c .obstacle-number .ensures)
 
 same-length-4 : tie.Need-same-length-4
@@ -68,7 +71,8 @@ same-length-4 c = search needs
 
 returns-4 : tie.Need-returns-4
 unfolding join-number joining-of obstacle-number
-returns-4 c = told _ _ (c .enum-told2 .given .1) (c .before .before .before .before .join .ensures) refl
+returns-4 c = told joining-of join-number buffer-after _ _ (c .enum-told2 .given .1)
+    (c .before .before .before .before .join .ensures) refl
 
 pub hookup-join-spec : {M : Type 1} → statement M
 hookup-join-spec =

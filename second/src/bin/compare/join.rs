@@ -27,11 +27,7 @@ impl Comparison {
     /// One call of hookup_join with an output buffer of that length: its number, every byte of the buffer, nothing
     /// written elsewhere.
     fn join_pair(&mut self, a: &[u8], b: &[u8], room: usize) {
-        let seed = self.rng.byte() as usize;
-        let mut before = Vec::new();
-        for i in 0..room {
-            before.push((seed + 31 * i) as u8);
-        }
+        let before = self.pattern(room);
         let mut expected_out = before.clone();
         let answer = join::join(a, b, &mut expected_out);
         let expected = join::number(answer);

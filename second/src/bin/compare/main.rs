@@ -6,6 +6,7 @@
 //! stops at the first difference, and it fails where a category came up too rarely.
 
 mod check;
+mod closure;
 mod join;
 mod product;
 mod replay;
@@ -32,6 +33,18 @@ struct Comparison {
     tally: Tally,
     verdict: Option<String>,
     replay: Option<String>,
+}
+
+impl Comparison {
+    /// What an output buffer of that length holds before a call.
+    fn pattern(&mut self, room: usize) -> Vec<u8> {
+        let seed = self.rng.byte() as usize;
+        let mut pattern = Vec::new();
+        for i in 0..room {
+            pattern.push((seed + 31 * i) as u8);
+        }
+        pattern
+    }
 }
 
 /// Document 01's examples of records, starred or not.
@@ -74,7 +87,7 @@ fn arguments() -> Arguments {
     found
 }
 
-/// Each of the four comparisons has its own numbers, so that leaving one out does not change the others.
+/// Each of the five comparisons has its own numbers, so that leaving one out does not change the others.
 fn rng_for(seed: u64, comparison: u64) -> Rng {
     Rng::new(Rng::new(seed).next().wrapping_add(comparison))
 }
@@ -90,6 +103,7 @@ fn main() {
     };
     check::need(&mut run.tally);
     join::need(&mut run.tally);
+    closure::need(&mut run.tally);
     let started = Instant::now();
     run.all_checks();
     println!("hookup_check compared, {} s", started.elapsed().as_secs());
@@ -97,6 +111,10 @@ fn main() {
     let started = Instant::now();
     run.all_joins();
     println!("hookup_join compared, {} s", started.elapsed().as_secs());
+    run.rng = rng_for(arguments.seed, 5);
+    let started = Instant::now();
+    run.all_closures();
+    println!("hookup_closure compared, {} s", started.elapsed().as_secs());
     match run.verdict.clone() {
         Some(path) => {
             verdict::need(&mut run.tally);

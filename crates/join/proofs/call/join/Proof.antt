@@ -9,7 +9,7 @@ use Rattle.composite.specs.Answers.{joining-of, side-of}
 use Rattle.composite.specs.Walk.{fit-of}
 use Rattle.part.proofs.Ranges.{frame}
 use Rattle.join.specs.Pieces.{Joint}
-use Rattle.join.proofs.PieceTurn.{lists-merged}
+use Rattle.join.proofs.MergedList.{lists-merged}
 use Rattle.join.proofs.JoinAnswers.{
   refuses,
   breaking,

@@ -3,8 +3,8 @@ use mathlib.Core.Path.{_≡_, ap, _∙_}
 use native.Mathlib.Omega.{arith}
 use lib.ListN.{length}
 use Rattle.words.specs.Laid.{over}
-use Rattle.words.proofs.LaidLaws.{length-over}
-use Rattle.join.proofs.PieceTurn.{nothing-laid, lists-few}
+use Rattle.words.proofs.LaidLaws.{length-over, nothing-laid}
+use Rattle.join.proofs.MergedList.{lists-few}
 use Rattle.join.proofs.HeadEntries.{first-entries, entries-next, entries-all}
 use Rattle.join.proofs.entries.put_entries.Statement.{statement}
 use Rattle.join.proofs.entries.put_entries.Tie as tie

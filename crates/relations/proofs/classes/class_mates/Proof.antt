@@ -20,14 +20,17 @@ Inv-loop column states sets₀ s₀ sets s =
 abbrev μ-loop : tie.MeasureT-loop
 μ-loop column states sets₀ s₀ sets s = length column - s
 
-states-of-requires : tie.Need-states-of-requires Inv-loop μ-loop
-states-of-requires c κs = search needs
-
 empties-requires : tie.Need-empties-requires Inv-loop μ-loop
-empties-requires c κs = search needs
+empties-requires c κs = tt
+
+put-states-requires : tie.Need-put-states-requires Inv-loop μ-loop
+put-states-requires c κs = (c .before .before .before .pre, c .before .empties .ensures)
+
+empties-requires-2 : tie.Need-empties-requires-2 Inv-loop μ-loop
+empties-requires-2 c κs = tt
 
 loop-holds : tie.Need-loop-holds Inv-loop μ-loop
-loop-holds c = (omega arith, filled-none (c .empties .ensures))
+loop-holds c = (omega arith, filled-none (c .empties2 .ensures))
 
 u8-at-requires : tie.Need-u8-at-requires Inv-loop μ-loop
 u8-at-requires c κs = search needs
@@ -37,7 +40,7 @@ small : (c : tie.After-u8-at Inv-loop μ-loop) → c .u8-at .result < 64
 small c =
     omega (
       arith,
-      c .before .before .before .before .before .before .pre .below (c .before .before .loop .s)
+      c .before .before .before .before .before .before .before .before .pre .below (c .before .before .loop .s)
           (omega arith),
     )
 
@@ -61,15 +64,15 @@ loop-less c = omega arith
 
 loop-again : tie.Need-loop-again Inv-loop μ-loop
 loop-again c =
-    let of = c .before .before .before .before .states-of in (
+    let of = c .before .before .before .before .put-states in (
       omega arith,
       filled-more _ (omega arith) (c .before .before .loop .inv .1)
-          (class-mates _ _ (of .result) (of .ensures) _ _ (c .u8-at .ensures .0) (small c)),
+          (class-mates _ _ (of .last .0) (of .ensures) _ _ (c .u8-at .ensures .0) (small c)),
     )
 
 returns : tie.Need-returns Inv-loop μ-loop
 returns c = filled-end (omega arith) (c .before .loop .inv .1)
 
 pub class-mates-spec : {M : Type 1} → statement M
-class-mates-spec = tie.close (tie.spec Inv-loop μ-loop states-of-requires empties-requires loop-holds u8-at-requires
-    mul-sets array-read-sets mul-sets-2 array-write-sets add-s loop-less loop-again returns)
+class-mates-spec = tie.close (tie.spec Inv-loop μ-loop empties-requires put-states-requires empties-requires-2
+    loop-holds u8-at-requires mul-sets array-read-sets mul-sets-2 array-write-sets add-s loop-less loop-again returns)

@@ -17,8 +17,11 @@ Inv-loop column offers states common words₀ s₀ words s =
 abbrev μ-loop : tie.MeasureT-loop
 μ-loop column offers states common words₀ s₀ words s = length column - s
 
-states-of-requires : tie.Need-states-of-requires Inv-loop μ-loop
-states-of-requires c κs = search needs
+empties-requires : tie.Need-empties-requires Inv-loop μ-loop
+empties-requires c κs = tt
+
+put-states-requires : tie.Need-put-states-requires Inv-loop μ-loop
+put-states-requires c κs = (c .before .before .before .pre, c .before .empties .ensures)
 
 put-offered-classes-requires : tie.Need-put-offered-classes-requires Inv-loop μ-loop
 put-offered-classes-requires c κs = search needs
@@ -36,7 +39,7 @@ array-read-gather : tie.Need-array-read-gather Inv-loop μ-loop
 array-read-gather c =
     omega (
       arith,
-      c .before .before .before .before .before .before .before .before .pre .below
+      c .before .before .before .before .before .before .before .before .before .before .pre .below
           (c .before .before .loop .s) (omega arith),
     )
 
@@ -64,14 +67,14 @@ loop-again c = (
 
 returns : tie.Need-returns Inv-loop μ-loop
 returns c =
-    let of = c .before .before .before .before .before .states-of in
     let common = c .before .before .before .put-offered-classes in
-    let start = c .before .before .before .before .before .before .before in
+    let of = c .before .before .before .before .before .put-states in
+    let start = c .before .before .before .before .before .before .before .before .before in
     filled-as
-    (offered-states-at _ _ (of .result) (of .ensures) _ (common .last .0) (start .pre .below) (common .ensures))
+    (offered-states-at _ _ (of .last .0) (of .ensures) _ (common .last .0) (start .pre .below) (common .ensures))
     (filled-end (omega arith) (c .before .loop .inv .1))
 
 pub put-offered-states-spec : {M : Type 1} → statement M
-put-offered-states-spec = tie.close (tie.spec Inv-loop μ-loop states-of-requires put-offered-classes-requires loop-holds
-    u8-at-requires mul-gather array-read-gather gather-requires mul-words slice-write-words add-s loop-less loop-again
-    returns)
+put-offered-states-spec = tie.close (tie.spec Inv-loop μ-loop empties-requires put-states-requires
+    put-offered-classes-requires loop-holds u8-at-requires mul-gather array-read-gather gather-requires mul-words
+    slice-write-words add-s loop-less loop-again returns)

@@ -9,7 +9,8 @@ use Rattle.part.specs.Record.{states, observing}
 use Rattle.relations.specs.Relations.{reach-for}
 use Rattle.restrictive.specs.Sets.{reached}
 use Rattle.restrictive.specs.Verdict.{first-violation}
-use Rattle.restrictive.proofs.OfferArrays.{closure-reach, reached-classes, around-offers}
+use Rattle.relations.proofs.SilentReach.{closure-reach}
+use Rattle.restrictive.proofs.OfferArrays.{reached-classes, around-offers}
 use Rattle.restrictive.proofs.Scans.{found-first, nothing-more, found-last}
 use Rattle.restrictive.proofs.rules.with_silent.Statement.{statement}
 use Rattle.restrictive.proofs.rules.with_silent.Tie as tie
@@ -17,18 +18,19 @@ use Rattle.restrictive.proofs.rules.with_silent.Tie as tie
 element-copy-out-silent : tie.Need-element-copy-out-silent
 element-copy-out-silent c = search needs
 
-closure-requires : tie.Need-closure-requires
-closure-requires c κs = search needs
+closures-requires : tie.Need-closures-requires
+closures-requires c κs = search needs
 
 gather-each-requires : tie.Need-gather-each-requires
 gather-each-requires c κs = search needs
 
 -- the closure is the silent one, and its classes are those that silent steps lead to
-closed : (c : tie.After-closure) → let start = c .before .before .before .before in
-    Rows (states (now (start .args .b))) (c .closure .result) (reach-for (now (start .args .b)) (start .args .observer))
+closed : (c : tie.After-closures) → let start = c .before .before .before .before in
+    Rows (states (now (start .args .b))) (c .closures .result)
+    (reach-for (now (start .args .b)) (start .args .observer))
 closed c =
     let pre = c .before .before .before .before .pre in
-    closure-reach _ _ _ (c .closure .result) (pre .1 .0 3 (omega arith)) (c .closure .ensures .words)
+    closure-reach _ _ _ (pre .1 .0 3 (omega arith)) (c .closures .result) (c .closures .ensures .words)
 
 meets : (c : tie.After-gather-each) → let start = c .before .before .before .before .before .before in
     Rows (states (now (start .args .b))) (c .gather-each .result)
@@ -37,7 +39,7 @@ meets c =
     let start = c .before .before .before .before .before .before in
     let sound = start .pre .0 in
     reached-classes _ _ (sound .framed) (sound .within)
-    (c .before .before .closure .result) (now (start .args .labels)) (c .gather-each .result)
+    (c .before .before .closures .result) (now (start .args .labels)) (c .gather-each .result)
     (closed (c .before .before)) (rw (sound .sized) at (start .pre .1 .1 .0))
     (filled-end (sound .sized) (c .gather-each .ensures) .words)
 
@@ -72,7 +74,7 @@ by-event-requires c κs =
     let sound = start .pre .0 in
     let silently =
     around-offers _ _ (sound .framed) (sound .within)
-    (made .before .before .closure .result) (made .gather-each .result) (closed (made .before .before))
+    (made .before .before .closures .result) (made .gather-each .result) (closed (made .before .before))
     (meets made) in (
       sound,
       (
@@ -92,5 +94,5 @@ returns-2 c =
     (told .enum-told2 .given .1))
 
 pub with-silent-spec : {M : Type 1} → statement M
-with-silent-spec = tie.close (tie.spec element-copy-out-silent closure-requires gather-each-requires rule-4-requires
+with-silent-spec = tie.close (tie.spec element-copy-out-silent closures-requires gather-each-requires rule-4-requires
     enum-told returns enum-told-2 element-copy-out-by-event by-event-requires returns-2)

@@ -9,7 +9,7 @@ use Rattle.composite.specs.Walk.{fit-of}
 use Rattle.part.proofs.Ranges.{frame}
 use Rattle.join.specs.Pieces.{Joint}
 use Rattle.join.proofs.JoinAnswers.{passing-accepted, joint}
-use Rattle.join.proofs.PieceTurn.{lists-merged}
+use Rattle.join.proofs.MergedList.{lists-merged}
 use Rattle.store.specs.Answers.{answer-of}
 use Rattle.join.proofs.PieceOrder.{joined-most}
 use Rattle.store.proofs.HookupLaws.{joined-stopped, joined-full, joined-room, laid-behind}

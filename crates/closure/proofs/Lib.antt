@@ -1,0 +1,2 @@
+pub mod PieceBytes
+pub mod Refusals

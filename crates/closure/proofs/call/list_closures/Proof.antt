@@ -1,0 +1,80 @@
+use Prim.Native.Nat.{_*_}
+use mathlib.Core.Path.{_≡_, refl, sym, ap, _∙_}
+use mathlib.Core.Option.{none}
+use native.Mathlib.Omega.{arith}
+use borrow.Author.Needs.{needs}
+use lib.ListN.{length}
+use Rattle.part.specs.Rejections.{rejection, Accepted}
+use Rattle.part.specs.Answers.{rejection-of}
+use Rattle.part.proofs.Ranges.{frame}
+use Rattle.part.proofs.Accepted.{rejection-none}
+use Rattle.closure.specs.Closures.{pieces, buffer-after}
+use Rattle.closure.specs.Answers.{refusal-of}
+use Rattle.closure.proofs.PieceBytes.{length-pieces}
+use Rattle.closure.proofs.Refusals.{refused, roomless, roomy}
+use Rattle.closure.proofs.call.list_closures.Statement.{statement}
+use Rattle.closure.proofs.call.list_closures.Tie as tie
+
+screen-requires : tie.Need-screen-requires
+screen-requires c κs = search needs
+
+enum-known-screened : tie.Need-enum-known-screened
+enum-known-screened c = search needs
+
+returns : tie.Need-returns
+unfolding refusal-of rejection-of buffer-after
+returns c = (
+  sym (refused _ _ _
+      (sym (c .before .before .before .screen .ensures) ∙ ap rejection-of (c .before .screened .given .1))),
+  refl,
+)
+
+enum-told : tie.Need-enum-told
+enum-told c = search needs
+
+-- no rejection applies
+accepted : (c : tie.After-enum-told) → rejection (c .before .before .before .before .before .args .bytes .now) ≡ none
+unfolding rejection-of
+accepted c = sym (c .before .before .screen .ensures) ∙ ap rejection-of (c .enum-told .given .1)
+
+is-accepted : (c : tie.After-enum-told) → Accepted (c .before .before .before .before .before .args .bytes .now)
+is-accepted c = rejection-none _ .0 (accepted c)
+
+-- how many bytes the pieces take
+size : (c : tie.After-states) → length (pieces (c .before .before .before .before .before .before .args .bytes .now))
+    ≡ c .states .result * 72
+size c = rw (c .states .ensures .0) (length-pieces _ (is-accepted (c .before)))
+
+states-requires : tie.Need-states-requires
+states-requires c κs = let f = frame _ (is-accepted c) .whole in omega arith
+
+mul-if1 : tie.Need-mul-if1
+mul-if1 c = search needs
+
+returns-2 : tie.Need-returns-2
+unfolding refusal-of buffer-after
+returns-2 c = (
+  sym (roomless _ _ (accepted (c .before .before)) (omega (arith, size (c .before), c .if1 .taken))),
+  refl,
+)
+
+put-pieces-requires : tie.Need-put-pieces-requires
+put-pieces-requires c κs =
+    let known = c .before .before in
+    (is-accepted (known .before), omega (arith, size known, c .before .if1 .left))
+
+same-length : tie.Need-same-length
+same-length c = search needs
+
+returns-3 : tie.Need-returns-3
+unfolding refusal-of buffer-after
+returns-3 c =
+    let tested = c .before .before .before .before in
+    let known = tested .before in (
+      sym (roomy _ _ (accepted (known .before)) (omega (arith, size known, tested .if1 .left))),
+      c .before .before .put-pieces .ensures,
+    )
+
+pub list-closures-spec : {M : Type 1} → statement M
+list-closures-spec = tie.close (tie.spec screen-requires enum-known-screened returns enum-told states-requires mul-if1
+    returns-2 put-pieces-requires same-length returns-3)

@@ -1,0 +1,32 @@
+-- The closures of a part as bytes, and what the call that writes them answers (request c).
+use Prim.Native.Nat.{ℕ}
+use mathlib.Core.Bool.{cond}
+use mathlib.Core.List.{List, _++_}
+use mathlib.Core.Option.{Option, none, some}
+use lib.Dec.{ltb}
+use lib.ListN.{length}
+use Rattle.bounded.specs.Search.{or-else}
+use Rattle.words.specs.Arrays.{padded}
+use Rattle.words.specs.Laid.{over}
+use Rattle.words.specs.LittleEndian.{digits, each}
+use Rattle.words.specs.Sets.{mask}
+use Rattle.part.specs.Record.{states}
+use Rattle.part.specs.Rejections.{rejection}
+use Rattle.relations.specs.Relations.{reach, visits}
+
+-- The piece of s: its silent closure as a set, in 8 bytes, then its visits and zeros behind them, in 64.
+unfoldable pub piece : List ℕ → ℕ → List ℕ
+piece b s = digits 8 (mask (states b) (reach b s)) ++ padded 64 (visits b s)
+
+-- The pieces of all states, in their order.
+unfoldable pub pieces : List ℕ → List ℕ
+pieces b = each (states b) (piece b)
+
+-- The first refusal, for a buffer of so many bytes: the record's, else 15 where the pieces do not fit.
+unfoldable pub refusal : List ℕ → ℕ → Option ℕ
+refusal b room = or-else (rejection b) (cond (ltb room (length (pieces b))) (some 15) none)
+
+-- The buffer after the call: the pieces from its start on, or unchanged.
+unfoldable pub buffer-after : Option ℕ → List ℕ → List ℕ → List ℕ
+buffer-after none bytes out = over out 0 bytes
+buffer-after (some k) bytes out = out

@@ -1,0 +1,4 @@
+pub mod Closures
+pub mod Answers
+pub mod Pieces
+pub mod Examples

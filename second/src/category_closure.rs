@@ -1,0 +1,271 @@
+//! Categories of closures, by the checker's own answer.
+
+use crate::check::{self, Verdict};
+use crate::closure::{self, ClosureAnswer, PIECE};
+use crate::record::{self, Part};
+use crate::wrong_closure::{self, ORDERS, STEPS};
+
+/// Is this a category that must come up most often?
+pub fn is_main(name: &str) -> bool {
+    name == CLOSED || name == NO_WRONG_ORDER
+}
+
+const CLOSED: &str = "closed";
+const NO_WRONG_ORDER: &str = "closed, no wrong order gives the visits from some state";
+
+/// The longest closures, of 64 states.
+pub const LONGEST: usize = 64 * PIECE;
+
+/// The wrong orders are tried on parts of so many states at most; on larger ones they would take too long.
+const MOST_STATES_MISREAD: usize = 24;
+
+/// Every category.
+pub fn names() -> Vec<String> {
+    let mut names = Vec::new();
+    for number in 1..=8 {
+        names.push(format!("refused {}", number));
+        names.push(format!("refused {}, no room either", number));
+        names.push(format!("refused {}, room for 64 states", number));
+    }
+    for rule in 1..=5 {
+        names.push(format!("closed, breaks rule {}", rule));
+    }
+    for name in [
+        "refused 15",
+        "refused 15, one byte short",
+        "refused 15, no byte at all",
+        CLOSED,
+        NO_WRONG_ORDER,
+        "closed, passes",
+        "closed, just enough room",
+        "closed, one byte to spare",
+        "closed, room to spare",
+        "closed, 1 state",
+        "closed, 64 states",
+        "closed, 0 events",
+        "closed, 32 events",
+        "closed, 64 states and 32 events",
+        "closed, no quiet event",
+        "closed, quiet events without a step",
+        "closed, quiet steps that stay and no other",
+        "closed, 8 states or more, each quiet step there is",
+        "closed, 8 states or more, one leads to all others at once, no other quiet step",
+        "closed, 8 states or more, all others lead to one at once, no other quiet step",
+        "closed, 8 states or more, one circle of quiet steps",
+        "closed, 8 states or more, all visited from each",
+        "closed, 64 visits",
+        "closed, 64 visits, rising",
+        "closed, 64 visits, falling",
+        "closed, 64 visits, the last 63 quiet steps away",
+        "closed, 32 visits or more, neither rising nor falling behind s",
+        "closed, state 0 the last visit",
+        "closed, state 0 neither the first visit nor the last",
+        "closed, state 63 neither the first visit nor the last",
+        "closed, three quiet events or more, none to be spared",
+    ] {
+        names.push(name.to_string());
+    }
+    for (name, _) in ORDERS {
+        names.push(format!("wrong order differs: {}", name));
+    }
+    for (name, _) in STEPS {
+        names.push(format!("wrong steps differ: {}", name));
+    }
+    names
+}
+
+/// The categories of one call with an output buffer of `room` bytes.
+pub fn of_closure(bytes: &[u8], room: usize, answer: ClosureAnswer) -> Vec<String> {
+    match answer {
+        ClosureAnswer::Length(length) => {
+            let part = record::read(bytes).unwrap();
+            let mut names = vec![CLOSED.to_string(), rule_name(bytes)];
+            names.extend(size_names(&part, room - length));
+            names.extend(event_names(&part));
+            names.extend(table_names(&part));
+            names.extend(visit_names(&part));
+            names.extend(wrong_step_names(&part));
+            names
+        }
+        ClosureAnswer::Refused(15) => no_room_names(&record::read(bytes).unwrap(), room),
+        ClosureAnswer::Refused(number) => refused_names(number, room),
+    }
+}
+
+fn refused_names(number: u32, room: usize) -> Vec<String> {
+    let mut names = vec![format!("refused {}", number)];
+    if room < PIECE {
+        names.push(format!("refused {}, no room either", number));
+    }
+    if room >= LONGEST {
+        names.push(format!("refused {}, room for 64 states", number));
+    }
+    names
+}
+
+fn no_room_names(part: &Part, room: usize) -> Vec<String> {
+    let mut names = vec!["refused 15".to_string()];
+    if room + 1 == PIECE * part.state_count() {
+        names.push("refused 15, one byte short".to_string());
+    }
+    if room == 0 {
+        names.push("refused 15, no byte at all".to_string());
+    }
+    names
+}
+
+/// What Check says of the part; the closures do not ask.
+fn rule_name(bytes: &[u8]) -> String {
+    match check::check(bytes) {
+        Verdict::Pass => "closed, passes".to_string(),
+        Verdict::Breaks(found) => format!("closed, breaks rule {}", found.rule),
+        Verdict::Refused(_) => unreachable!(),
+    }
+}
+
+fn size_names(part: &Part, spare: usize) -> Vec<String> {
+    let n = part.state_count();
+    let m = part.event_count();
+    let mut names = Vec::new();
+    let mut add = |applies: bool, name: &str| {
+        if applies {
+            names.push(name.to_string());
+        }
+    };
+    add(spare == 0, "closed, just enough room");
+    add(spare == 1, "closed, one byte to spare");
+    add(spare > 1, "closed, room to spare");
+    add(n == 1, "closed, 1 state");
+    add(n == 64, "closed, 64 states");
+    add(m == 0, "closed, 0 events");
+    add(m == 32, "closed, 32 events");
+    add(n == 64 && m == 32, "closed, 64 states and 32 events");
+    names
+}
+
+fn event_names(part: &Part) -> Vec<String> {
+    let quiet: Vec<usize> = (0..part.event_count()).filter(|&e| check::is_quiet(part, e)).collect();
+    let has_step = |e: usize| part.steps[e].iter().any(|row| row.contains(&true));
+    let mut names = Vec::new();
+    if quiet.is_empty() {
+        names.push("closed, no quiet event".to_string());
+    } else if !quiet.iter().any(|&e| has_step(e)) {
+        names.push("closed, quiet events without a step".to_string());
+    }
+    let reaches = check::quiet_reaches(part);
+    if quiet.len() >= 3 && quiet.iter().all(|&e| is_needed(part, &reaches, e)) {
+        names.push("closed, three quiet events or more, none to be spared".to_string());
+    }
+    names
+}
+
+/// Is some quiet reach smaller without the event?
+fn is_needed(part: &Part, reaches: &[Vec<bool>], e: usize) -> bool {
+    let n = part.state_count();
+    let mut without = part.clone();
+    without.steps[e] = vec![vec![false; n]; n];
+    check::quiet_reaches(&without) != reaches
+}
+
+/// By the single quiet steps; those that stay in their state do not count for a shape.
+fn table_names(part: &Part) -> Vec<String> {
+    let n = part.state_count();
+    let table = check::quiet_steps(part);
+    let stays = (0..n).filter(|&s| table[s][s]).count();
+    let leading = |s: usize| (0..n).filter(|&t| t != s && table[s][t]).count();
+    let steps: usize = (0..n).map(leading).sum();
+    let one_leads_to_all = (0..n).any(|s| leading(s) == n - 1);
+    let all_lead_to_one = (0..n).any(|t| (0..n).filter(|&s| s != t && table[s][t]).count() == n - 1);
+    let one_each = (0..n).all(|s| leading(s) == 1);
+    let all_from_each = check::quiet_reaches(part).iter().all(|reach| !reach.contains(&false));
+    let mut names = Vec::new();
+    let mut add = |applies: bool, name: &str| {
+        if applies {
+            names.push(name.to_string());
+        }
+    };
+    add(steps == 0 && stays > 0, "closed, quiet steps that stay and no other");
+    if n >= 8 {
+        add(steps + stays == n * n, "closed, 8 states or more, each quiet step there is");
+        let name = "closed, 8 states or more, one leads to all others at once, no other quiet step";
+        add(one_leads_to_all && steps == n - 1, name);
+        let name = "closed, 8 states or more, all others lead to one at once, no other quiet step";
+        add(all_lead_to_one && steps == n - 1, name);
+        add(one_each && all_from_each, "closed, 8 states or more, one circle of quiet steps");
+        add(all_from_each, "closed, 8 states or more, all visited from each");
+    }
+    names
+}
+
+/// By the visits: a category counts once where the visits from some state belong to it.
+fn visit_names(part: &Part) -> Vec<String> {
+    let table = check::quiet_steps(part);
+    let mut names = Vec::new();
+    for s in 0..part.state_count() {
+        let visits = closure::visits(&table, s);
+        let mut found = names_of_visits(&table, &visits);
+        if part.state_count() <= MOST_STATES_MISREAD {
+            found.extend(wrong_order_names(&table, &visits));
+        }
+        found.retain(|name| !names.contains(name));
+        names.extend(found);
+    }
+    names
+}
+
+fn names_of_visits(table: &[Vec<bool>], visits: &[usize]) -> Vec<String> {
+    let count = visits.len();
+    let last = visits[count - 1];
+    let rises = |visits: &[usize]| visits.windows(2).all(|pair| pair[0] < pair[1]);
+    let falls = |visits: &[usize]| visits.windows(2).all(|pair| pair[0] > pair[1]);
+    let is_inside = |t: usize| visits[1..].contains(&t) && last != t;
+    let mut names = Vec::new();
+    let mut add = |applies: bool, name: &str| {
+        if applies {
+            names.push(name.to_string());
+        }
+    };
+    if count == 64 {
+        add(true, "closed, 64 visits");
+        add(rises(visits), "closed, 64 visits, rising");
+        add(falls(visits), "closed, 64 visits, falling");
+        let farthest = wrong_closure::distances(table, visits[0])[last] == Some(63);
+        add(farthest, "closed, 64 visits, the last 63 quiet steps away");
+    }
+    if count >= 32 {
+        let is_mixed = !rises(&visits[1..]) && !falls(&visits[1..]);
+        add(is_mixed, "closed, 32 visits or more, neither rising nor falling behind s");
+    }
+    add(count > 1 && last == 0, "closed, state 0 the last visit");
+    add(is_inside(0), "closed, state 0 neither the first visit nor the last");
+    add(is_inside(63), "closed, state 63 neither the first visit nor the last");
+    names
+}
+
+/// The wrong orders that would show in these visits.
+fn wrong_order_names(table: &[Vec<bool>], visits: &[usize]) -> Vec<String> {
+    let mut names = Vec::new();
+    for (name, order) in ORDERS {
+        if order(table, visits[0]) != visits {
+            names.push(format!("wrong order differs: {}", name));
+        }
+    }
+    if names.len() == ORDERS.len() {
+        names.push(NO_WRONG_ORDER.to_string());
+    }
+    names
+}
+
+/// The wrong tables of quiet steps that would show in some set.
+fn wrong_step_names(part: &Part) -> Vec<String> {
+    let right = check::quiet_steps(part);
+    let reaches = check::quiet_reaches(part);
+    let mut names = Vec::new();
+    for (name, counts) in STEPS {
+        let table = wrong_closure::steps_by(part, counts);
+        if table != right && (0..part.state_count()).any(|s| check::reach(&table, s) != reaches[s]) {
+            names.push(format!("wrong steps differ: {}", name));
+        }
+    }
+    names
+}
