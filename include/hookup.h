@@ -51,7 +51,7 @@ extern "C" {
  *
  * record may be null only where len is 0; otherwise it points to len readable bytes. The call reads nothing else, keeps
  * nothing, takes no lock, and may be made by several threads at once. It needs less
- * than 10 KB of stack: 6,055 bytes were measured on records of 64 states and 32 events, 6,823 on a first call, in which the loader
+ * than 10 KB of stack: 5,544 bytes were measured on records of 64 states and 32 events, 7,336 on a first call, in which the loader
  * resolves memset. */
 uint32_t hookup_check(const uint8_t *record, size_t len);
 
@@ -67,7 +67,7 @@ uint32_t hookup_check(const uint8_t *record, size_t len);
  *
  * out may not overlap a record; a and b may be the same bytes. A pointer may be null only where its length is 0. The call reads and
  * writes nothing else, keeps nothing, takes no lock, and may be made by several threads at once. It needs less than
- * 12 KB of stack: 8,775 bytes were measured on full records. */
+ * 12 KB of stack: 8,264 bytes were measured on full records. */
 uint32_t hookup_join(const uint8_t *a, size_t alen, const uint8_t *b, size_t blen, uint8_t *out, size_t outlen);
 
 /* Writes, for a debugger, where silent steps lead from each state of a part, for the record's own observer.
@@ -85,7 +85,8 @@ uint32_t hookup_join(const uint8_t *a, size_t alen, const uint8_t *b, size_t ble
  * The bytes of out behind the last piece stay as they were.
  *
  * out may not overlap the record. A pointer may be null only where its length is 0. The call reads and writes nothing else, keeps
- * nothing, takes no lock, and may be made by several threads at once. */
+ * nothing, takes no lock, and may be made by several threads at once. It needs less than 6 KB of stack: 696 bytes were measured on
+ * records of 64 states and 32 events, 3,816 on a first call. */
 uint32_t hookup_closure(const uint8_t *record, size_t len, uint8_t *out, size_t outlen);
 
 #ifdef __cplusplus

@@ -1,4 +1,5 @@
 pub mod Relations
 pub mod Sets
 pub mod Theorems
+pub mod Computed
 pub mod Examples
