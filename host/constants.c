@@ -64,6 +64,9 @@ int main(void)
 
     expect_closures(largest, len, HOOKUP_MAX_CLOSURE, HOOKUP_MAX_CLOSURE, "the closures of most states");
     expect_closures(largest, len, sizeof out, HOOKUP_MAX_CLOSURE, "the same with room behind them");
+    size_t last = HOOKUP_MAX_STATES - 1;
+    expect(last, out[last * HOOKUP_CLOSURE_PIECE + HOOKUP_CLOSURE_SET], "the first visit from the last state");
+    expect(HOOKUP_MAX_STATES, largest[HOOKUP_HEADER + 1], "the number of states in the record");
     expect_closures(largest, len, HOOKUP_MAX_CLOSURE - 1, 0, "room for all but their last byte");
     expect_closures(smallest, little, HOOKUP_CLOSURE_PIECE, HOOKUP_CLOSURE_PIECE, "the closure of one state");
     expect_closures(smallest, little, HOOKUP_CLOSURE_PIECE - 1, 0, "room for all but its last byte");

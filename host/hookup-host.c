@@ -203,7 +203,7 @@ static int set_size(const uint8_t *set)
 /* Prints the visits from state s, as many as its set has states. False and errno where that fails. */
 static bool print_visits(int s, const uint8_t *piece)
 {
-    const uint8_t *visits = piece + HOOKUP_MAX_STATES / 8;
+    const uint8_t *visits = piece + HOOKUP_CLOSURE_SET;
     int count = set_size(piece);
     bool printed = printf("from %d:", s) >= 0;
     for (int i = 0; printed && i < count; i++)

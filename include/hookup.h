@@ -12,7 +12,8 @@
 #define HOOKUP_HEADER 6         /* bytes */
 #define HOOKUP_MAX_BODY 16580   /* bytes, with most states and most events */
 #define HOOKUP_MAX_RECORD 16586 /* bytes of header and body; every joined record fits */
-#define HOOKUP_CLOSURE_PIECE 72 /* bytes that hookup_closure writes for a state: a set of 8, then 64 visits */
+#define HOOKUP_CLOSURE_SET 8    /* bytes of the set with which a state's piece begins */
+#define HOOKUP_CLOSURE_PIECE 72 /* bytes that hookup_closure writes for a state: the set, then 64 visits */
 #define HOOKUP_MAX_CLOSURE 4608 /* bytes that it writes for most states */
 
 /* Answers: done. */
@@ -73,7 +74,7 @@ uint32_t hookup_join(const uint8_t *a, size_t alen, const uint8_t *b, size_t ble
 /* Writes, for a debugger, where silent steps lead from each state of a part, for the record's own observer.
  *
  * Answers HOOKUP_CLOSED if it did. out then begins with a piece of HOOKUP_CLOSURE_PIECE bytes for each state s, in the order of the
- * states:
+ * states, whose number is the record's byte HOOKUP_HEADER + 1:
  *   8 bytes   the silent closure of s as a set, lowest byte first: bit t is set where silent steps lead from s to t, and bit s always
  *   64 bytes  the visits, a state in each: the states of the set, each once, in the order of a search from s, then zeros. It visits s
  *             first, then each time the lowest state that a silent step leads to from one visited before and that is not visited yet.

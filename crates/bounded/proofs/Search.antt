@@ -4,12 +4,12 @@ use Prim.Native.Nat.{ℕ, zero, suc, _+_, _≤_, _<_}
 use mathlib.Core.Path.{_≡_, refl, sym, ap, _∙_, subst}
 use mathlib.Core.Bool.{Bool, true, false, not, _||_, _&&_, cond, or-true, or-false}
 use mathlib.Core.Option.{Option, none, some}
-use mathlib.Core.Logic.{_⊎_, inl, inr, ⊎-elim}
+use mathlib.Core.Logic.{_↔_, _⊎_, inl, inr, ⊎-elim}
 use native.Mathlib.Nat.{eq-or-lt-of-le, le-of-suc-le-suc, not-suc-le-zero, lt-suc-self, le-step, add-zero}
 use native.Mathlib.Numerals.{add-one}
 use native.Mathlib.Omega.{arith}
 use lib.Dec.{T}
-use Rattle.bounded.specs.Search.{any, all, or-else, first, least, count}
+use Rattle.bounded.specs.Search.{any, all, or-else, when, first, least, count}
 
 -- ---- tests
 
@@ -140,6 +140,17 @@ pub record FoundAt {A : Type 0} (n : ℕ) (f : ℕ → Option A) (a : A) : Type 
   pub found : f at ≡ some a
   pub before : (j : ℕ) → j < at → f j ≡ none
 
+module _ {A : Type 0} where
+  pub when-none : (test : Bool) (a : A) → (when test a ≡ none) ↔ (test ≡ false)
+  unfolding when
+  when-none true a = (λ e. absurd (let z : _≡_ {A = ℕ} 0 1 = cc in omega arith), λ e. absurd (true-not-false refl e))
+  when-none false a = (λ e. refl, λ e. refl)
+
+  pub when-some : (test : Bool) (a b : A) → when test a ≡ some b → (test ≡ true) × (a ≡ b)
+  unfolding when
+  when-some true a b e = (refl, ap (λ (o : Option A). elim o [ none ↦ a | some x ↦ x ]) e)
+  when-some false a b e = absurd (let z : _≡_ {A = ℕ} 0 1 = cc in omega arith)
+
 else-none : {A : Type 0} (a b : Option A) → or-else a b ≡ none → (a ≡ none) × (b ≡ none)
 unfolding or-else
 else-none none b e = (refl, e)
@@ -192,35 +203,27 @@ pub record LeastAt (n : ℕ) (f : ℕ → Bool) (t : ℕ) : Type 0 where
   pub passing : f t ≡ true
   pub before : (j : ℕ) → j < t → f j ≡ false
 
-picked : (b : Bool) (i t : ℕ) → cond b (some i) none ≡ some t → (b ≡ true) × (i ≡ t)
-picked true i t e = (refl, ap (λ (o : Option ℕ). elim o [ none ↦ i | some j ↦ j ]) e)
-picked false i t e = absurd (let z : _≡_ {A = ℕ} 0 1 = cc in omega arith)
-
-unpicked : (b : Bool) (i : ℕ) → _≡_ {A = Option ℕ} (cond b (some i) none) none → b ≡ false
-unpicked true i e = absurd (let z : _≡_ {A = ℕ} 0 1 = cc in omega arith)
-unpicked false i e = refl
-
 module _ (n : ℕ) (f : ℕ → Bool) where
   pub least-found : (t : ℕ) → least n f ≡ some t → LeastAt n f t
   unfolding least
   least-found t e =
       let w = first-found _ n t e in
-      let (passing, same) = picked _ _ _ (w .found) in
+      let (passing, same) = when-some _ _ _ (w .found) in
       subst (LeastAt n f) same
-      (record { below = w .below; passing = passing; before = λ j l. unpicked _ j (w .before j l) })
+      (record { below = w .below; passing = passing; before = λ j l. when-none _ j .0 (w .before j l) })
 
   pub least-none : least n f ≡ none → (i : ℕ) → i < n → f i ≡ false
   unfolding least
-  least-none e i h = unpicked _ i (first-none _ n e i h)
+  least-none e i h = when-none _ i .0 (first-none _ n e i h)
 
   pub least-at : (t : ℕ) → LeastAt n f t → least n f ≡ some t
-  unfolding least
+  unfolding least when
   least-at t w =
       first-at _ n t
       (record { at = t; below = w .below; found = rw (w .passing); before = λ j l. rw (w .before j l) })
 
   pub least-nothing : ((i : ℕ) → i < n → f i ≡ false) → least n f ≡ none
-  unfolding least
+  unfolding least when
   least-nothing h = first-nothing _ n (λ i l. rw (h i l))
 
 -- ---- a loop that searches, written as its answer: found at i, or i has come to the bound

@@ -23,6 +23,10 @@ unfoldable pub or-else {ℓ} : {A : Type ℓ} → Option A → Option A → Opti
 or-else none b = b
 or-else (some a) b = some a
 
+-- The answer, where the test holds.
+unfoldable pub when {ℓ} : {A : Type ℓ} → Bool → A → Option A
+when test a = cond test (some a) none
+
 -- What is found at the first number below n where anything is found.
 unfoldable pub first {ℓ} : {A : Type ℓ} → ℕ → (ℕ → Option A) → Option A
 unfolding or-else
@@ -31,7 +35,7 @@ first (suc n) find = or-else (first n find) (find n)
 
 -- The least number below n that passes the test.
 unfoldable pub least : ℕ → (ℕ → Bool) → Option ℕ
-least n test = first n (λ i. cond (test i) (some i) none)
+least n test = first n (λ i. when (test i) i)
 
 -- How many numbers below n pass the test.
 unfoldable pub count : ℕ → (ℕ → Bool) → ℕ

@@ -2,7 +2,7 @@
 use Prim.Native.Nat.{ℕ, _+_, _*_, _≤_, _<_}
 use mathlib.Core.Path.{_≡_, sym, ap, _∙_}
 use mathlib.Core.Bool.{Bool}
-use mathlib.Core.List.{List, _++_}
+use mathlib.Core.List.{List}
 use native.Mathlib.Nat.{zero-add}
 use native.Mathlib.Omega.{arith}
 use lib.ListN.{length, length-append}
@@ -25,23 +25,22 @@ use Rattle.relations.specs.Sets.{Concerned, in-rows, ClosureFrom}
 use Rattle.relations.proofs.Searches.{rows-visits}
 use Rattle.relations.proofs.SilentReach.{silent-steps, silent-within, reach-within}
 use Rattle.relations.proofs.Theorems.{rows-within}
-use Rattle.closure.specs.Closures.{piece, pieces}
+use Rattle.closure.specs.Closures.{piece-bytes, piece, pieces}
 use Rattle.closure.specs.Pieces.{visits-bytes}
 
 -- ---- how many bytes
 
-length-visits-bytes : (xs : List ℕ) → length xs ≤ 64 → length (visits-bytes xs) ≡ 72
-unfolding visits-bytes
-length-visits-bytes xs h =
-    length-append (digits 8 (mask 64 (has xs))) (padded 64 xs)
-    ∙ omega (arith, length-digits 8 (mask 64 (has xs)), length-padded 64 xs h)
+length-piece-bytes : (set : ℕ) (xs : List ℕ) → length xs ≤ 64 → length (piece-bytes set xs) ≡ 72
+unfolding piece-bytes
+length-piece-bytes set xs h =
+    length-append (digits 8 set) (padded 64 xs) ∙ omega (arith, length-digits 8 set, length-padded 64 xs h)
 
 -- ---- a piece is laid
 
 pub piece-laid : (out : List ℕ) (at s : ℕ) (step : ℕ → ℕ → Bool) {c : Closure} {next last : List ℕ} → s < 64
     → ClosureFrom step 64 s c → next ≡ over out at (digits 8 (c .set)) → last ≡ over next (at + 8) (c .visits)
     → last ≡ over out at (visits-bytes (visits-by step 64 s))
-unfolding visits-bytes
+unfolding visits-bytes piece-bytes
 piece-laid out at s step {c} h found first second =
     let visits = visits-by step 64 s in
     let set : c .set ≡ mask 64 (has visits) = represents-mask 64 (c .set) (has visits)
@@ -56,9 +55,10 @@ pub pieces-turn : (out : List ℕ) (step : ℕ → ℕ → Bool) (s : ℕ) {befo
     → before ≡ over out 0 (each s (λ u. visits-bytes (visits-by step 64 u)))
     → next ≡ over before (s * 72) (visits-bytes (visits-by step 64 s))
     → next ≡ over out 0 (each (s + 1) (λ u. visits-bytes (visits-by step 64 u)))
+unfolding visits-bytes
 pieces-turn out step s {before} h laid e =
     e ∙ ap (λ (k : ℕ). over before k (visits-bytes (visits-by step 64 s))) (sym (zero-add (s * 72)))
-    ∙ rw laid (each-turn out 0 s 72 _ (λ u l. length-visits-bytes _ (visits-at-most step 64 u (omega arith))))
+    ∙ rw laid (each-turn out 0 s 72 _ (λ u l. length-piece-bytes _ _ (visits-at-most step 64 u (omega arith))))
 
 -- ---- the record's pieces
 
@@ -81,7 +81,7 @@ module _ (b : List ℕ) (a : Accepted b) (silent : ℕ) (of : Concerned b (obser
       mask-wider (states b) 64 _ (frame b a .few .most-states)
       (λ t l. visited-reach s t h ∙ reach-within b _ (rows-within b a) s t h l)
       ∙ mask-same (states b) _ _ (λ t l. visited-reach s t h) in
-      ap visits-bytes (same-visits s h) ∙ ap (λ (x : ℕ). digits 8 x ++ padded 64 (visits b s)) set
+      ap visits-bytes (same-visits s h) ∙ ap (λ (x : ℕ). piece-bytes x (visits b s)) set
 
   pub pieces-visits : each (states b) (λ s. visits-bytes (visits-by (in-rows rows) 64 s)) ≡ pieces b
   unfolding pieces
@@ -90,13 +90,8 @@ module _ (b : List ℕ) (a : Accepted b) (silent : ℕ) (of : Concerned b (obser
 pub length-piece : (b : List ℕ) → Accepted b → (s : ℕ) → s < states b → length (piece b s) ≡ 72
 unfolding piece visits-for
 length-piece b a s h =
-    length-append (digits 8 (mask (states b) (reach b s))) (padded 64 (visits b s))
-    ∙ omega (
-      arith,
-      length-digits 8 (mask (states b) (reach b s)),
-      length-padded 64 (visits b s)
-          (omega (arith, visits-at-most (silent-step b (observer b)) (states b) s h, frame b a .few .most-states)),
-    )
+    length-piece-bytes _ _
+    (omega (arith, visits-at-most (silent-step b (observer b)) (states b) s h, frame b a .few .most-states))
 
 pub length-pieces : (b : List ℕ) → Accepted b → length (pieces b) ≡ states b * 72
 unfolding pieces

@@ -5,7 +5,7 @@ use mathlib.Core.List.{List}
 use mathlib.Core.Option.{none, some}
 use borrow.Author.Tests.{lt-ltb, le-ltb}
 use lib.ListN.{length}
-use Rattle.bounded.specs.Search.{or-else}
+use Rattle.bounded.specs.Search.{or-else, when}
 use Rattle.part.specs.Rejections.{rejection}
 use Rattle.closure.specs.Closures.{pieces, refusal}
 
@@ -15,9 +15,9 @@ module _ (b : List ℕ) (room : ℕ) where
   refused k e = rw e
 
   pub roomless : rejection b ≡ none → room < length (pieces b) → refusal b room ≡ some 15
-  unfolding refusal or-else
+  unfolding refusal or-else when
   roomless e h = rw (e, lt-ltb room (length (pieces b)) h)
 
   pub roomy : rejection b ≡ none → length (pieces b) ≤ room → refusal b room ≡ none
-  unfolding refusal or-else
+  unfolding refusal or-else when
   roomy e h = rw (e, le-ltb room (length (pieces b)) h)

@@ -1,11 +1,10 @@
 -- The closures of a part as bytes, and what the call that writes them answers (request c).
 use Prim.Native.Nat.{ℕ}
-use mathlib.Core.Bool.{cond}
 use mathlib.Core.List.{List, _++_}
 use mathlib.Core.Option.{Option, none, some}
 use lib.Dec.{ltb}
 use lib.ListN.{length}
-use Rattle.bounded.specs.Search.{or-else}
+use Rattle.bounded.specs.Search.{or-else, when}
 use Rattle.words.specs.Arrays.{padded}
 use Rattle.words.specs.Laid.{over}
 use Rattle.words.specs.LittleEndian.{digits, each}
@@ -14,9 +13,13 @@ use Rattle.part.specs.Record.{states}
 use Rattle.part.specs.Rejections.{rejection}
 use Rattle.relations.specs.Relations.{reach, visits}
 
--- The piece of s: its silent closure as a set, in 8 bytes, then its visits and zeros behind them, in 64.
+-- A set and visits as bytes: the set in 8, then the visits and zeros behind them in 64.
+unfoldable pub piece-bytes : ℕ → List ℕ → List ℕ
+piece-bytes set visits = digits 8 set ++ padded 64 visits
+
+-- The piece of s: its silent closure as a set, and its visits.
 unfoldable pub piece : List ℕ → ℕ → List ℕ
-piece b s = digits 8 (mask (states b) (reach b s)) ++ padded 64 (visits b s)
+piece b s = piece-bytes (mask (states b) (reach b s)) (visits b s)
 
 -- The pieces of all states, in their order.
 unfoldable pub pieces : List ℕ → List ℕ
@@ -24,7 +27,7 @@ pieces b = each (states b) (piece b)
 
 -- The first refusal, for a buffer of so many bytes: the record's, else 15 where the pieces do not fit.
 unfoldable pub refusal : List ℕ → ℕ → Option ℕ
-refusal b room = or-else (rejection b) (cond (ltb room (length (pieces b))) (some 15) none)
+refusal b room = or-else (rejection b) (when (ltb room (length (pieces b))) 15)
 
 -- The buffer after the call: the pieces from its start on, or unchanged.
 unfoldable pub buffer-after : Option ℕ → List ℕ → List ℕ → List ℕ

@@ -3,7 +3,7 @@
 -- that clashes, and no obstacle says that they join.
 use Prim.Native.Nat.{ℕ, _*_, _≤_, _<_}
 use mathlib.Core.Path.{_≡_, refl, ap, _∙_, subst}
-use mathlib.Core.Bool.{Bool, true, false, not}
+use mathlib.Core.Bool.{true, false, not}
 use mathlib.Core.Logic.{_↔_}
 use mathlib.Core.List.{List}
 use mathlib.Core.Option.{Option, none, some}
@@ -12,8 +12,10 @@ use native.Mathlib.Omega.{arith}
 use lib.Dec.{ltb}
 use lib.ListN.{length}
 use borrow.Author.Tests.{eqb-true, eq-eqb, ltb-false, le-ltb, not-false}
-use Rattle.bounded.specs.Search.{or-else}
+use Rattle.bounded.specs.Search.{or-else, when}
 use Rattle.bounded.proofs.Search.{
+  when-none,
+  when-some,
   true-not-false,
   is-true,
   or-left,
@@ -36,7 +38,6 @@ use Rattle.composite.specs.Joining.{
   Obstacle,
   refusal,
   clash,
-  when,
   observers-differ,
   clash-at,
   first-clash,
@@ -45,18 +46,6 @@ use Rattle.composite.specs.Joining.{
 }
 use Rattle.composite.specs.Theorems.{FitsAt, JoinableExactly, ClashExactly, JoinsExactly}
 use Rattle.composite.proofs.Meetings.{clear-opposite, opposite-clear}
-
--- ---- tests that lay an obstacle
-
-when-none : (test : Bool) (o : Obstacle) → (when test o ≡ none) ↔ (test ≡ false)
-unfolding when
-when-none true o = (λ e. absurd (let z : _≡_ {A = ℕ} 0 1 = cc in omega arith), λ e. absurd (true-not-false refl e))
-when-none false o = (λ e. refl, λ e. refl)
-
-when-some : (test : Bool) (o p : Obstacle) → when test o ≡ some p → (test ≡ true) × (o ≡ p)
-unfolding when
-when-some true o p e = (refl, cc)
-when-some false o p e = absurd (let z : _≡_ {A = ℕ} 0 1 = cc in omega arith)
 
 or-else-none : (x y : Option Obstacle) → (or-else x y ≡ none) ↔ ((x ≡ none) × (y ≡ none))
 unfolding or-else

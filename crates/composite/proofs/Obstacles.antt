@@ -10,7 +10,7 @@ use native.Mathlib.Omega.{arith}
 use borrow.Author.Tests.{eqb-true, eq-eqb, ne-eqb, lt-ltb, le-ltb}
 use lib.Dec.{eqb, ltb}
 use lib.ListN.{length, getD}
-use Rattle.bounded.specs.Search.{all, or-else}
+use Rattle.bounded.specs.Search.{all, or-else, when}
 use Rattle.bounded.proofs.Search.{all-at, true-or-false}
 use Rattle.machine.specs.Machine.{Kind, Event, absent, event}
 use Rattle.part.specs.Format.{max-states, max-events, max-event-kind}
@@ -25,7 +25,6 @@ use Rattle.composite.specs.Joining.{
   Obstacle,
   refusal,
   clash,
-  when,
   observers-differ,
   clash-at,
   first-clash,

@@ -3,7 +3,7 @@ use Prim.Native.Nat.{ℕ}
 use mathlib.Core.Bool.{Bool, true, false, _&&_}
 use mathlib.Core.List.{List, [], _∷_}
 use lib.Dec.{eqb}
-use Rattle.bounded.specs.Search.{first, or-else}
+use Rattle.bounded.specs.Search.{first, or-else, when}
 use Rattle.words.specs.Sets.{bit, single, mask}
 use Rattle.words.specs.Pairs.{pair, product}
 use Rattle.words.specs.LittleEndian.{number, digits, each}
@@ -14,7 +14,7 @@ use Rattle.restrictive.specs.Judged.{judged, same}
 use Rattle.composite.specs.Merge.{beside, merge}
 use Rattle.composite.specs.Meeting.{meets, clashes, combined, kind-byte, level-byte}
 use Rattle.composite.specs.Joined.{identifiers, merged, classes, after, joined-event, joined-row, joined-fields, joined}
-use Rattle.composite.specs.Joining.{Obstacle, refusal, clash, when, observers-differ, clash-at, first-clash, too-large, obstacle, Side, first-record, second-record, Joining, length-is, unfit, stopped, unless-unfit, into, unless-stopped, joining}
+use Rattle.composite.specs.Joining.{Obstacle, refusal, clash, observers-differ, clash-at, first-clash, too-large, obstacle, Side, first-record, second-record, Joining, length-is, unfit, stopped, unless-unfit, into, unless-stopped, joining}
 
 -- The joined record, computed.
 unfoldable pub hooked : List ℕ → List ℕ → List ℕ

@@ -5,7 +5,7 @@ use mathlib.Core.List.{List}
 use mathlib.Core.Option.{Option, none, some}
 use lib.Dec.{ltb, eqb}
 use lib.ListN.{length}
-use Rattle.bounded.specs.Search.{first, or-else}
+use Rattle.bounded.specs.Search.{first, or-else, when}
 use Rattle.words.specs.Laid.{over}
 use Rattle.part.specs.Format.{max-states, max-events}
 use Rattle.part.specs.Record.{observer, states, events, identifier}
@@ -18,10 +18,6 @@ use Rattle.composite.specs.Joined.{merged, joined}
 pub data Obstacle : Type 0 where
   refusal : ℕ → Obstacle
   clash : ℕ → Obstacle
-
--- The obstacle, where the test holds.
-unfoldable pub when : Bool → Obstacle → Option Obstacle
-when test o = cond test (some o) none
 
 -- 9: the observers differ.
 unfoldable pub observers-differ : List ℕ → List ℕ → Bool

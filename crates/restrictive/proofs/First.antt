@@ -9,7 +9,7 @@ use native.Mathlib.Nat.{eq-or-lt-of-le}
 use native.Mathlib.Decide.{decLe}
 use native.Mathlib.Omega.{arith}
 use lib.Dec.{T}
-use Rattle.bounded.specs.Search.{Below, first}
+use Rattle.bounded.specs.Search.{Below, first, when}
 use Rattle.bounded.proofs.Search.{first-none, first-nothing, first-found, first-at}
 use Rattle.part.specs.Record.{states, events, identifier, Observer}
 use Rattle.part.proofs.Rising.{Rises}
@@ -143,7 +143,7 @@ IsViolation b o =
 -- The search for it finds the first in the order in which violations are named.
 pub finds-violation : (b : List ℕ) (o : Observer) → Rises (identifier b) (events b)
     → Finds in-order (IsViolation b o) (first-violation b o)
-unfolding first-violation rule-violation event-violation state-violation violation-at
+unfolding first-violation rule-violation event-violation state-violation violation-at when
 finds-violation b o up =
     let n = states b in
     let same : Rises (λ s. s) n = λ i j l h. l in

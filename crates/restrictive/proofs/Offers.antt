@@ -10,7 +10,7 @@ use mathlib.Core.Logic.{_↔_, ⊎-elim}
 use lib.Dec.{eqb}
 use lib.ListN.{getD}
 use borrow.Author.Tests.{eqb-true, eq-eqb, ne-eqb, not-true}
-use Rattle.bounded.specs.Search.{any, all, first}
+use Rattle.bounded.specs.Search.{any, all, first, when}
 use Rattle.bounded.proofs.Search.{all-at, all-intro, any-found, any-next, any-none, first-nothing, first-hit}
 use Rattle.bounded.proofs.Search.{same-truth, is-false, is-true, true-not-false, imp-elim, imp-intro, not-refuted}
 use Rattle.bounded.proofs.Search.{true-or-false, and-right}
@@ -33,11 +33,11 @@ the-violation b k i s t u = record { rule = suc k; event = identifier b i; s = s
 
 module _ (b : List ℕ) (o : Observer) (k i s t u : ℕ) where
   pub violated : broken b o (rule-at k) i s t u ≡ true → violation-at b o k i s t u ≡ some (the-violation b k i s t u)
-  unfolding violation-at
+  unfolding violation-at when
   violated e = rw e
 
   pub not-violated : broken b o (rule-at k) i s t u ≡ false → violation-at b o k i s t u ≡ none
-  unfolding violation-at
+  unfolding violation-at when
   not-violated e = rw e
 
 -- ---- rules 3 to 5: u has the class of s, and does not offer the class of t

@@ -5,12 +5,12 @@ use mathlib.Core.Path.{_≡_, ap, _∙_}
 use mathlib.Core.List.{List}
 use mathlib.Core.Option.{Option, none, some}
 use native.Mathlib.Omega.{arith}
-use Rattle.words.proofs.Sets.{within-members}
 use Rattle.part.specs.Record.{column, observer-of}
 use Rattle.part.specs.Rejections.{rejection}
 use Rattle.part.proofs.Accepted.{rejection-none}
-use Rattle.part.proofs.Ranges.{ranges, frame, column-length, row-within}
+use Rattle.part.proofs.Ranges.{ranges, frame, column-length}
 use Rattle.relations.specs.Sets.{Sound}
+use Rattle.relations.proofs.Theorems.{rows-within}
 use Rattle.restrictive.specs.Verdict.{Violation, refused, by-rules, after-rejection, first-violation, verdict}
 
 pub refused-verdict : (b : List ℕ) (k : ℕ) → rejection b ≡ some k → verdict b ≡ refused k
@@ -29,7 +29,7 @@ ready b e =
     let size = column-length b a in
     record {
       framed = frame b a;
-      within = λ i s t h l m. within-members _ _ (row-within b a i s h l) t m;
+      within = rows-within b a;
       sized = size;
       partition = record {
         few = omega (arith, frame b a .few .most-states);

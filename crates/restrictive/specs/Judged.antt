@@ -3,7 +3,7 @@ use Prim.Native.Nat.{ℕ}
 use mathlib.Core.Bool.{Bool, true, false, _&&_}
 use mathlib.Core.List.{List}
 use lib.Dec.{eqb}
-use Rattle.bounded.specs.Search.{all, first, or-else}
+use Rattle.bounded.specs.Search.{all, first, or-else, when}
 use Rattle.bounded.specs.Paths.{via}
 use Rattle.machine.specs.Roles.{at-level, role-of}
 use Rattle.words.specs.Sets.{bit}
@@ -17,7 +17,7 @@ use Rattle.restrictive.specs.Verdict.{Violation, Verdict, pass, refused,
 
 -- The verdict, computed.
 unfoldable pub judged : List ℕ → Verdict
-unfolding rejected-with verdict after-rejection by-rules first-violation rule-violation event-violation state-violation violation-at rule-at broken answers asks around reach-for via silent-step step-by same-class leads role-at role-of at-level kind-of observer all first or-else bit low at-or-below rank
+unfolding rejected-with verdict after-rejection by-rules first-violation rule-violation event-violation state-violation violation-at when rule-at broken answers asks around reach-for via silent-step step-by same-class leads role-at role-of at-level kind-of observer all first or-else bit low at-or-below rank
 judged b = verdict b
 
 abbrev pub same-violation : Violation → Violation → Bool

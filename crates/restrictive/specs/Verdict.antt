@@ -1,10 +1,9 @@
 -- The verdict of Check on a record (document 01, "The five rules" and "Order"): the rejections, then the first violation by rule, event,
 -- s, t, u, each ascending.
-use Prim.Native.Nat.{ℕ, zero, suc}
-use mathlib.Core.Bool.{cond}
+use Prim.Native.Nat.{ℕ, suc}
 use mathlib.Core.List.{List}
 use mathlib.Core.Option.{Option, none, some}
-use Rattle.bounded.specs.Search.{first}
+use Rattle.bounded.specs.Search.{first, when}
 use Rattle.part.specs.Record.{states, events, identifier, Observer, observer-of}
 use Rattle.part.specs.Rejections.{rejection}
 use Rattle.relations.specs.Relations.{rule-at}
@@ -26,7 +25,7 @@ pub data Verdict : Type 0 where
 -- The violation of a rule by the event at place i at s, t, u, where it is one.
 unfoldable pub violation-at : List ℕ → Observer → ℕ → ℕ → ℕ → ℕ → ℕ → Option Violation
 violation-at b o k i s t u =
-    cond (broken b o (rule-at k) i s t u) (some (record { rule = suc k; event = identifier b i; s = s; t = t; u = u })) none
+    when (broken b o (rule-at k) i s t u) (record { rule = suc k; event = identifier b i; s = s; t = t; u = u })
 
 -- The first at a state s, of an event, of a rule, of the record.
 unfoldable pub state-violation : List ℕ → Observer → ℕ → ℕ → ℕ → Option Violation

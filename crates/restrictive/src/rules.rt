@@ -207,44 +207,6 @@ fn rule_4(
     same_for_events(b, observer, column, RULE_4, silent, scratch, met)
 }
 
-// Rules 4 and 5, where there are silent events.
-fn with_silent(
-    b: &[u8],
-    observer: u8,
-    column: &[u8],
-    concerned: &[u64; 5],
-    labels: &[u64; 64],
-    scratch: &mut [u64; 64],
-    offers: &mut [u64; 64],
-) -> Found
-    requires { ⌜ Sound (now b) (now column) ⌝ }
-    requires { ⌜ ((k : ℕ) → k < 5 → Concerned (now b) observer k (getD (now concerned) k 0)) ⌝ }
-    requires { ⌜ ClassOf (length (now column)) (byte (now column)) (now labels) ⌝ }
-    requires { ⌜ first 3 (rule-violation (now b) (observing observer (now column))) ≡ none ⌝ }
-    ensures { λ r. ⌜ found-of r ≡ first-violation (now (b .entry)) (observing observer (now (column .entry))) ⌝ }
-{
-    let silent = concerned[RULE_4];
-    let closure = closures(b, silent);
-    let met = set::gather_each(column.len(), &closure, labels);
-    let found = rule_4(b, observer, column, silent, &met, scratch);
-    match found {
-        Found::At(_) => return found,
-        Found::Nothing => {}
-    }
-    by_event(
-        b,
-        observer,
-        column,
-        RULE_5,
-        concerned[RULE_5],
-        true,
-        &closure,
-        &met,
-        scratch,
-        offers,
-    )
-}
-
 // Rules 4 and 5. Without silent events rule 4 asks nothing, and rule 5 asks for the event alone.
 fn rules_from_4(
     b: &[u8],
@@ -261,19 +223,38 @@ fn rules_from_4(
     requires { ⌜ first 3 (rule-violation (now b) (observing observer (now column))) ≡ none ⌝ }
     ensures { λ r. ⌜ found-of r ≡ first-violation (now (b .entry)) (observing observer (now (column .entry))) ⌝ }
 {
-    if concerned[RULE_4] != 0 {
-        return with_silent(b, observer, column, concerned, labels, scratch, offers);
-    }
+    let silent = concerned[RULE_4];
     let actions = concerned[RULE_5];
+    if silent == 0 {
+        return by_event(
+            b,
+            observer,
+            column,
+            RULE_5,
+            actions,
+            false,
+            labels,
+            labels,
+            scratch,
+            offers,
+        );
+    }
+    let closure = closures(b, silent);
+    let met = set::gather_each(column.len(), &closure, labels);
+    let found = rule_4(b, observer, column, silent, &met, scratch);
+    match found {
+        Found::At(_) => return found,
+        Found::Nothing => {}
+    }
     by_event(
         b,
         observer,
         column,
         RULE_5,
         actions,
-        false,
-        labels,
-        labels,
+        true,
+        &closure,
+        &met,
         scratch,
         offers,
     )

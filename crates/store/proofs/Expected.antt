@@ -7,7 +7,7 @@ use mathlib.Core.Option.{Option, none, some}
 use native.Mathlib.Omega.{arith}
 use lib.Dec.{eqb}
 use borrow.Author.Tests.{eq-eqb}
-use Rattle.bounded.specs.Search.{or-else, first}
+use Rattle.bounded.specs.Search.{or-else, first, when}
 use Rattle.bounded.proofs.Search.{or-now, true-not-false}
 use Rattle.part.specs.Rejections.{Condition, conditions}
 use Rattle.restrictive.specs.Verdict as check
@@ -15,7 +15,7 @@ use Rattle.restrictive.specs.Verdict.{Violation, verdict}
 use Rattle.restrictive.specs.Theorems.{FirstHolding, here, later}
 use Rattle.restrictive.proofs.Theorems.{refused-exactly}
 use Rattle.composite.specs.Joining as join
-use Rattle.composite.specs.Joining.{Obstacle, refusal, when, clash-at, first-clash, obstacle}
+use Rattle.composite.specs.Joining.{Obstacle, refusal, clash-at, first-clash, obstacle}
 use Rattle.store.specs.Answer.{gives, refused, clash, breaks, obstacle-answer}
 use Rattle.store.specs.Demand.{Foreseen}
 
