@@ -1,6 +1,8 @@
 /* Calls the C entries on the records in the files that are named, each in a buffer of exactly its size, so that a tool that watches
- * memory sees every byte read or written outside. Joins each record with the one before it and with itself, and writes its closures, into
- * buffers of several sizes. */
+ * memory sees every byte read or written outside. Joins each record with the one before it and with itself, and writes its closures and its
+ * explanation, into buffers of several sizes. */
+#include <inttypes.h>
+#include <stdbool.h>
 #include <stdio.h>
 #include <stdlib.h>
 #include <string.h>
@@ -76,31 +78,53 @@ static uint32_t closures_into(struct bytes record, size_t size)
     return answer;
 }
 
-static const size_t sizes[] = {0, 1, 11, 52, 72, 400, 4607, 4608, 16586, 20000};
+/* Whether an answer of Check says that the record passes or breaks a rule. */
+static bool judged(uint32_t answer)
+{
+    return answer == HOOKUP_PASS || answer > HOOKUP_BREAK;
+}
+
+/* The explanation of a record, in the same way. Its answer is what Check says of the record, unless there is no room. */
+static uint32_t explain_into(struct bytes record, uint32_t check, size_t size)
+{
+    uint8_t *out = lend(size);
+    uint32_t answer = hookup_explain(record.at, record.len, out, size);
+    uint32_t wanted = judged(check) && size < HOOKUP_EXPLANATION ? HOOKUP_NO_ROOM : check;
+    if (answer != wanted) {
+        fprintf(stderr, "entries: an explanation answers %" PRIu32 ", not %" PRIu32 "\n", answer, wanted);
+        exit(1);
+    }
+    take_back(out, size, judged(answer) ? HOOKUP_EXPLANATION : 0, "an explanation");
+    return answer;
+}
+
+static const size_t sizes[] = {0, 1, 11, 52, 63, 64, 136, 400, 8703, 8704, 16586, 20000};
 
 struct tally {
     unsigned long calls, done;
 };
 
-static struct tally checks, joins, closures;
+static struct tally checks, joins, closures, explanations;
 
-static void count(struct tally *tally, uint32_t answer)
+static void count(struct tally *tally, bool done)
 {
     tally->calls++;
-    tally->done += answer == 0;
+    tally->done += done;
 }
 
 static void try_record(struct bytes before, struct bytes now)
 {
-    count(&checks, hookup_check(now.at, now.len));
+    uint32_t check = hookup_check(now.at, now.len);
+    count(&checks, check == HOOKUP_PASS);
     for (size_t i = 0; i < sizeof sizes / sizeof sizes[0]; i++) {
-        count(&joins, join_into(before, now, sizes[i]));
-        count(&joins, join_into(now, now, sizes[i]));
-        count(&closures, closures_into(now, sizes[i]));
+        count(&joins, join_into(before, now, sizes[i]) == HOOKUP_JOINED);
+        count(&joins, join_into(now, now, sizes[i]) == HOOKUP_JOINED);
+        count(&closures, closures_into(now, sizes[i]) == HOOKUP_CLOSED);
+        count(&explanations, judged(explain_into(now, check, sizes[i])));
     }
     size_t fits = now.len > 7 ? HOOKUP_CLOSURE_PIECE * (size_t)now.at[7] : 0;
-    count(&closures, closures_into(now, fits));
-    count(&closures, closures_into(now, fits == 0 ? 0 : fits - 1));
+    count(&closures, closures_into(now, fits) == HOOKUP_CLOSED);
+    count(&closures, closures_into(now, fits == 0 ? 0 : fits - 1) == HOOKUP_CLOSED);
 }
 
 int main(int named, char **names)
@@ -113,7 +137,7 @@ int main(int named, char **names)
         before = now;
     }
     free(before.at);
-    printf("entries: %lu checks, %lu pass; %lu joins, %lu joined; %lu closures, %lu written\n", checks.calls, checks.done, joins.calls,
-           joins.done, closures.calls, closures.done);
-    return checks.done != 0 && joins.done != 0 && closures.done != 0 ? 0 : 1;
+    printf("entries: %lu checks, %lu pass; %lu joins, %lu joined; %lu closures, %lu written; %lu explanations, %lu written\n", checks.calls,
+           checks.done, joins.calls, joins.done, closures.calls, closures.done, explanations.calls, explanations.done);
+    return checks.done != 0 && joins.done != 0 && closures.done != 0 && explanations.done != 0 ? 0 : 1;
 }

@@ -1,5 +1,5 @@
-/* Holds the sizes of hookup.h, and the answer that hookup-host never gets, to the library. A size is right where the library takes it and
- * nothing beyond it. C11, and C++ too; status 1 and a line for each that is wrong. */
+/* Holds the sizes of hookup.h, its struct, and the answer that hookup-host never gets, to the library. A size is right where the library
+ * takes it and nothing beyond it. C11, and C++ too; status 1 and a line for each that is wrong. */
 #include <stdio.h>
 #include <string.h>
 
@@ -16,34 +16,125 @@ static void expect(size_t wanted, size_t got, const char *what)
     wrong = 1;
 }
 
-/* Makes a record of n states in one class and m low inputs that stay, where there were only zeros, and gives its length. */
-static size_t make(uint8_t *record, size_t n, size_t m)
+/* Lays the frame of a record of n states in one class and m low inputs without a step, where there were only zeros, and gives its length. */
+static size_t frame(uint8_t *record, size_t n, size_t m)
 {
-    size_t entries = HOOKUP_HEADER + 4 + n;
-    size_t rows = entries + 4 * m;
-    size_t len = rows + 8 * m * n;
+    size_t len = HOOKUP_HEADER + 4 + n + 4 * m + 8 * m * n;
     record[0] = (uint8_t)(len - HOOKUP_HEADER);
     record[1] = (uint8_t)((len - HOOKUP_HEADER) >> 8);
     record[4] = 1;
     record[7] = (uint8_t)n;
     record[9] = (uint8_t)m;
-    for (size_t i = 0; i < m; i++) {
-        record[entries + 4 * i] = (uint8_t)i;
-        for (size_t s = 0; s < n; s++)
-            record[rows + 8 * (i * n + s) + s / 8] = (uint8_t)(1 << s % 8);
-    }
+    for (size_t i = 0; i < m; i++)
+        record[HOOKUP_HEADER + 4 + n + 4 * i] = (uint8_t)i;
     return len;
 }
 
-/* Lends hookup_closure so many bytes of out. It is to change this many of all bytes, up to the last; none where there is no room. */
-static void expect_closures(const uint8_t *record, size_t len, size_t room, size_t changed, const char *what)
+/* The entry of the event at place i of a record that has its frame. */
+static uint8_t *entry(uint8_t *record, size_t i)
+{
+    return record + HOOKUP_HEADER + 4 + record[7] + 4 * i;
+}
+
+/* A step of the event at place i. */
+static void step(uint8_t *record, size_t i, size_t s, size_t t)
+{
+    entry(record, record[9])[8 * (i * record[7] + s) + t / 8] |= (uint8_t)(1 << t % 8);
+}
+
+/* Such a record whose events stay in each state. */
+static size_t make(uint8_t *record, size_t n, size_t m)
+{
+    size_t len = frame(record, n, m);
+    for (size_t i = 0; i < m; i++)
+        for (size_t s = 0; s < n; s++)
+            step(record, i, s, s);
+    return len;
+}
+
+/* A call that writes to out. */
+typedef uint32_t writer(const uint8_t *record, size_t len, uint8_t *out, size_t outlen);
+
+/* Lends the call so many bytes of out. It is to answer this and to change this many of all bytes, up to the last. */
+static void expect_written(writer *call, const uint8_t *record, size_t len, size_t room, uint32_t answer, size_t changed, const char *what)
 {
     size_t end = sizeof out;
     memset(out, 0xAA, end);
-    expect(changed == 0 ? HOOKUP_NO_ROOM : HOOKUP_CLOSED, hookup_closure(record, len, out, room), what);
+    expect(answer, call(record, len, out, room), what);
     while (end > 0 && out[end - 1] == 0xAA)
         end--;
     expect(changed, end, "bytes that it changed");
+}
+
+static void closures(void)
+{
+    static uint8_t line[65536], smallest[64];
+    size_t len = frame(line, HOOKUP_MAX_STATES, 1), last = HOOKUP_MAX_STATES - 1;
+    entry(line, 0)[2] = 2;
+    entry(line, 0)[3] = 0x40;
+    for (size_t s = 0; s < last; s++)
+        step(line, 0, s, s + 1);
+    expect(HOOKUP_CLOSURE_PIECE, HOOKUP_CLOSURE_SET + 2 * HOOKUP_CLOSURE_VISITS, "bytes of a set, visits and distances");
+    expect_written(hookup_closure, line, len, HOOKUP_MAX_CLOSURE, HOOKUP_CLOSED, HOOKUP_MAX_CLOSURE, "the closures of most states");
+    expect_written(hookup_closure, line, len, sizeof out, HOOKUP_CLOSED, HOOKUP_MAX_CLOSURE, "the same with room behind them");
+    expect(HOOKUP_MAX_STATES, line[HOOKUP_HEADER + 1], "the number of states in the record");
+    expect(last, out[HOOKUP_CLOSURE_SET + last], "the last visit from the first state");
+    expect(last, out[HOOKUP_CLOSURE_SET + HOOKUP_CLOSURE_VISITS + last], "its distance");
+    expect(last, out[last * HOOKUP_CLOSURE_PIECE + HOOKUP_CLOSURE_SET], "the first visit from the last state");
+    expect_written(hookup_closure, line, len, HOOKUP_MAX_CLOSURE - 1, HOOKUP_NO_ROOM, 0, "room for all but their last byte");
+
+    len = make(smallest, 1, 0);
+    expect_written(hookup_closure, smallest, len, HOOKUP_CLOSURE_PIECE, HOOKUP_CLOSED, HOOKUP_CLOSURE_PIECE, "the closure of one state");
+    expect_written(hookup_closure, smallest, len, HOOKUP_CLOSURE_PIECE - 1, HOOKUP_NO_ROOM, 0, "room for all but its last byte");
+    expect(HOOKUP_TOO_SHORT, hookup_closure(smallest, HOOKUP_HEADER - 1, NULL, 0), "closures of no record, without room");
+}
+
+/* The numbers that hookup_explain wrote to out, each by its name in the struct. */
+static void expect_numbers(struct hookup_explanation wanted)
+{
+    struct hookup_explanation got;
+    memcpy(&got, out, sizeof got);
+    expect(wanted.rule, got.rule, "rule");
+    expect(wanted.event, got.event, "event");
+    expect(wanted.s, got.s, "s");
+    expect(wanted.t, got.t, "t");
+    expect(wanted.u, got.u, "u");
+    expect(wanted.taken, got.taken, "taken");
+    expect(wanted.observer, got.observer, "observer");
+    expect(wanted.limit, got.limit, "limit");
+}
+
+/* Seven states, of which 1 and 6 share a class, and the observer 0x80. The low output 515 leads from 1 to 4, and the high internal event
+ * 600 from 0 to 2. So rule 5 is broken, since 515 has no step from 6, and the closure of 0 has two states. */
+static size_t make_break(uint8_t *record)
+{
+    static const uint8_t classes[] = {0, 1, 2, 3, 4, 5, 1}, low[] = {515 & 255, 515 >> 8, 1, 0x80}, high[] = {600 & 255, 600 >> 8, 2, 0xC0};
+    size_t len = frame(record, sizeof classes, 2);
+    record[6] = 0x80;
+    memcpy(record + HOOKUP_HEADER + 4, classes, sizeof classes);
+    memcpy(entry(record, 0), low, sizeof low);
+    memcpy(entry(record, 1), high, sizeof high);
+    step(record, 0, 1, 4);
+    step(record, 1, 0, 2);
+    return len;
+}
+
+static void explanations(void)
+{
+    static uint8_t smallest[64], broken[256];
+    static const struct hookup_explanation pass = {0, 0, 0, 0, 0, 1, 0, 1}, first_break = {5, 515, 1, 4, 6, 8, 0x80, 0};
+    size_t size = HOOKUP_EXPLANATION;
+    expect(size, sizeof(struct hookup_explanation), "bytes of the struct");
+    size_t len = make(smallest, 1, 0);
+    expect_written(hookup_explain, smallest, len, size, HOOKUP_PASS, size, "the explanation of one state");
+    expect_numbers(pass);
+    expect_written(hookup_explain, smallest, len, size - 1, HOOKUP_NO_ROOM, 0, "room for all but its last byte");
+    len = make_break(broken);
+    expect_written(hookup_explain, broken, len, sizeof out, HOOKUP_BREAK + 5, size, "the explanation of a break");
+    expect_numbers(first_break);
+    expect_written(hookup_explain, broken, len, size - 1, HOOKUP_NO_ROOM, 0, "room for all but its last byte");
+    expect_written(hookup_explain, broken, len - 1, sizeof out, HOOKUP_WRONG_LENGTH, 0, "the explanation of a refused record");
+    expect(HOOKUP_TOO_SHORT, hookup_explain(broken, HOOKUP_HEADER - 1, NULL, 0), "the explanation of no record, without room");
 }
 
 int main(void)
@@ -62,14 +153,7 @@ int main(void)
     expect(HOOKUP_JOINED, hookup_join(largest, len, smallest, little, out, HOOKUP_MAX_RECORD), "the largest joined record");
     expect(HOOKUP_NO_ROOM, hookup_join(largest, len, smallest, little, out, HOOKUP_MAX_RECORD - 1), "room for all but its last byte");
 
-    expect_closures(largest, len, HOOKUP_MAX_CLOSURE, HOOKUP_MAX_CLOSURE, "the closures of most states");
-    expect_closures(largest, len, sizeof out, HOOKUP_MAX_CLOSURE, "the same with room behind them");
-    size_t last = HOOKUP_MAX_STATES - 1;
-    expect(last, out[last * HOOKUP_CLOSURE_PIECE + HOOKUP_CLOSURE_SET], "the first visit from the last state");
-    expect(HOOKUP_MAX_STATES, largest[HOOKUP_HEADER + 1], "the number of states in the record");
-    expect_closures(largest, len, HOOKUP_MAX_CLOSURE - 1, 0, "room for all but their last byte");
-    expect_closures(smallest, little, HOOKUP_CLOSURE_PIECE, HOOKUP_CLOSURE_PIECE, "the closure of one state");
-    expect_closures(smallest, little, HOOKUP_CLOSURE_PIECE - 1, 0, "room for all but its last byte");
-    expect(HOOKUP_TOO_SHORT, hookup_closure(smallest, HOOKUP_HEADER - 1, NULL, 0), "closures of no record, without room");
+    closures();
+    explanations();
     return wrong;
 }

@@ -1,5 +1,5 @@
-/* Checks one part record, joins two and writes the joined record to a file, or prints the silent closures of one. An example of a host
- * program: the three calls of hookup.h, and beside them only C11 and its standard library. */
+/* Checks one part record and explains the answer, joins two and writes the joined record to a file, or prints the silent closures of one.
+ * An example of a host program: the four calls of hookup.h, and beside them only C11 and its standard library. */
 #include <errno.h>
 #include <inttypes.h>
 #include <stdbool.h>
@@ -35,8 +35,8 @@ static const struct meaning meanings[] = {
     {HOOKUP_BREAK + 1, true, "rule 1 is broken: an input has no step from some state"},
     {HOOKUP_BREAK + 2, true, "rule 2 is broken: a high input leaves its state's class"},
     {HOOKUP_BREAK + 3, true, "rule 3 is broken: a low input leads from one state to a class where it does not lead from another of the same class"},
-    {HOOKUP_BREAK + 4, true, "rule 4 is broken: a high output or internal event leads to a class that another state of the same class cannot reach by quiet steps"},
-    {HOOKUP_BREAK + 5, true, "rule 5 is broken: a low output or internal event leads to a class that another state of the same class cannot reach by it and quiet steps"},
+    {HOOKUP_BREAK + 4, true, "rule 4 is broken: a high output or internal event leads to a class that another state of the same class cannot reach by silent steps"},
+    {HOOKUP_BREAK + 5, true, "rule 5 is broken: a low output or internal event leads to a class that another state of the same class cannot reach by it and silent steps"},
 };
 
 static const struct meaning *find_meaning(uint32_t answer)
@@ -183,12 +183,50 @@ static size_t record_length(const uint8_t *record)
     return HOOKUP_HEADER + ((size_t)record[0] | (size_t)record[1] << 8 | (size_t)record[2] << 16 | (size_t)record[3] << 24);
 }
 
-static int check_record(struct bytes record)
+static int print_verdict(uint32_t answer)
 {
-    uint32_t answer = hookup_check(record.at, record.len);
     if (answer == HOOKUP_PASS)
         return print_answer(answer, "passes", "", DONE);
     return print_refusal(answer, "");
+}
+
+static int check_record(struct bytes record)
+{
+    return print_verdict(hookup_check(record.at, record.len));
+}
+
+/* Prints which event breaks the rule, and at which states. False and errno where that fails. */
+static bool print_break(const struct hookup_explanation *e)
+{
+    if (e->rule == 1)
+        return printf("event %" PRIu64 " has no step from state %" PRIu64 "\n", e->event, e->s) >= 0;
+    if (printf("event %" PRIu64 " leads from state %" PRIu64 " to state %" PRIu64, e->event, e->s, e->t) < 0)
+        return false;
+    if (e->rule == 2)
+        return puts(", of another class") != EOF;
+    return printf("; from state %" PRIu64 ", of the class of %" PRIu64 ", %s into the class of %" PRIu64 "%s\n", e->u, e->s,
+                  e->rule == 4 ? "silent steps do not lead" : "it does not lead", e->t,
+                  e->rule == 5 ? ", even with silent steps before and after it" : "") >= 0;
+}
+
+/* Prints what hookup_explain wrote. False and errno where that fails. */
+static bool print_explanation(const struct hookup_explanation *e)
+{
+    if (e->rule != 0 && !(print_break(e) && printf("observer's level: 0x%02" PRIx64 "\n", e->observer) >= 0))
+        return false;
+    return printf("states taken up: %" PRIu64 "\n", e->taken) >= 0;
+}
+
+/* Prints what check prints and, where the record is not refused, the explanation. */
+static int explain_record(struct bytes record)
+{
+    struct hookup_explanation explanation;
+    uint32_t answer = hookup_explain(record.at, record.len, (uint8_t *)&explanation, sizeof explanation);
+    int status = print_verdict(answer);
+    bool written = answer == HOOKUP_PASS || answer > HOOKUP_BREAK;
+    if (status == TROUBLE || !written)
+        return status;
+    return after_printing(print_explanation(&explanation), status);
 }
 
 /* The number of states in a set of 64 bits. */
@@ -200,14 +238,19 @@ static int set_size(const uint8_t *set)
     return size;
 }
 
-/* Prints the visits from state s, as many as its set has states. False and errno where that fails. */
+/* Prints the visits from state s, as many as its set has states; where the distance grows, it comes first. False and errno where that
+ * fails. */
 static bool print_visits(int s, const uint8_t *piece)
 {
     const uint8_t *visits = piece + HOOKUP_CLOSURE_SET;
+    const uint8_t *distances = visits + HOOKUP_CLOSURE_VISITS;
     int count = set_size(piece);
     bool printed = printf("from %d:", s) >= 0;
-    for (int i = 0; printed && i < count; i++)
-        printed = printf(" %d", visits[i]) >= 0;
+    for (int i = 0; printed && i < count; i++) {
+        if (i > 0 && distances[i] != distances[i - 1])
+            printed = printf("; in %d %s:", distances[i], distances[i] == 1 ? "step" : "steps") >= 0;
+        printed = printed && printf(" %d", visits[i]) >= 0;
+    }
     return printed && putchar('\n') != EOF;
 }
 
@@ -266,6 +309,9 @@ int main(int count, char **arguments)
         return join_files(arguments[2], arguments[3], arguments[4]);
     if (count == 3 && strcmp(arguments[1], "closure") == 0)
         return with_file(arguments[2], print_closures);
-    fputs("usage: hookup-host check FILE\n       hookup-host join A B OUT\n       hookup-host closure FILE\n", stderr);
+    if (count == 3 && strcmp(arguments[1], "explain") == 0)
+        return with_file(arguments[2], explain_record);
+    fputs("usage: hookup-host check FILE\n       hookup-host explain FILE\n       hookup-host join A B OUT\n       hookup-host closure FILE\n",
+          stderr);
     return TROUBLE;
 }

@@ -12,12 +12,14 @@
 #define HOOKUP_HEADER 6         /* bytes */
 #define HOOKUP_MAX_BODY 16580   /* bytes, with most states and most events */
 #define HOOKUP_MAX_RECORD 16586 /* bytes of header and body; every joined record fits */
-#define HOOKUP_CLOSURE_SET 8    /* bytes of the set with which a state's piece begins */
-#define HOOKUP_CLOSURE_PIECE 72 /* bytes that hookup_closure writes for a state: the set, then 64 visits */
-#define HOOKUP_MAX_CLOSURE 4608 /* bytes that it writes for most states */
+#define HOOKUP_CLOSURE_SET 8     /* bytes of the set with which a state's piece begins */
+#define HOOKUP_CLOSURE_VISITS 64 /* bytes of its visits, and again of their distances */
+#define HOOKUP_CLOSURE_PIECE 136 /* bytes that hookup_closure writes for a state: set, visits, distances */
+#define HOOKUP_MAX_CLOSURE 8704  /* bytes that it writes for most states */
+#define HOOKUP_EXPLANATION 64    /* bytes that hookup_explain writes */
 
 /* Answers: done. */
-#define HOOKUP_PASS 0   /* of hookup_check: no refusal applies and all five rules hold */
+#define HOOKUP_PASS 0   /* of hookup_check and hookup_explain: no refusal applies and all five rules hold */
 #define HOOKUP_JOINED 0 /* of hookup_join: the joined record is written */
 #define HOOKUP_CLOSED 0 /* of hookup_closure: the closures are written */
 
@@ -35,7 +37,7 @@
 #define HOOKUP_OBSERVERS_DIFFER 9
 #define HOOKUP_CLASH 10     /* a shared event clashes in kind or level */
 #define HOOKUP_TOO_LARGE 11 /* more than HOOKUP_MAX_STATES states or HOOKUP_MAX_EVENTS events together */
-#define HOOKUP_NO_ROOM 15   /* the buffer is shorter than what is to be written; of hookup_closure too */
+#define HOOKUP_NO_ROOM 15   /* the buffer is shorter than what is to be written; of hookup_closure and hookup_explain too */
 
 /* What is added: to the number of the first broken rule, 1 to 5; and to an answer of hookup_join about its second record. */
 #define HOOKUP_BREAK 100
@@ -52,7 +54,7 @@ extern "C" {
  *
  * record may be null only where len is 0; otherwise it points to len readable bytes. The call reads nothing else, keeps
  * nothing, takes no lock, and may be made by several threads at once. It needs less
- * than 10 KB of stack: 5,544 bytes were measured on records of 64 states and 32 events, 7,336 on a first call, in which the loader
+ * than 10 KB of stack: 5,640 bytes were measured on records of 64 states and 32 events, 7,400 on a first call, in which the loader
  * resolves memset. */
 uint32_t hookup_check(const uint8_t *record, size_t len);
 
@@ -68,7 +70,7 @@ uint32_t hookup_check(const uint8_t *record, size_t len);
  *
  * out may not overlap a record; a and b may be the same bytes. A pointer may be null only where its length is 0. The call reads and
  * writes nothing else, keeps nothing, takes no lock, and may be made by several threads at once. It needs less than
- * 12 KB of stack: 8,264 bytes were measured on full records. */
+ * 12 KB of stack: 8,376 bytes were measured on full records, 10,152 on a first call. */
 uint32_t hookup_join(const uint8_t *a, size_t alen, const uint8_t *b, size_t blen, uint8_t *out, size_t outlen);
 
 /* Writes, for a debugger, where silent steps lead from each state of a part, for the record's own observer.
@@ -76,8 +78,9 @@ uint32_t hookup_join(const uint8_t *a, size_t alen, const uint8_t *b, size_t ble
  * Answers HOOKUP_CLOSED if it did. out then begins with a piece of HOOKUP_CLOSURE_PIECE bytes for each state s, in the order of the
  * states, whose number is the record's byte HOOKUP_HEADER + 1:
  *   8 bytes   the silent closure of s as a set, lowest byte first: bit t is set where silent steps lead from s to t, and bit s always
- *   64 bytes  the visits, a state in each: the states of the set, each once, in the order of a search from s, then zeros. It visits s
- *             first, then each time the lowest state that a silent step leads to from one visited before and that is not visited yet.
+ *   64 bytes  the visits, a state in each: the states of the set, each once, then zeros. They go by the least number of silent steps from
+ *             s, the lowest state first among equals; so s is the first
+ *   64 bytes  the distances: beside each visit that least number, then zeros
  * The number of visits is the number of set bits; a zero among the visits is state 0. The part need not pass.
  *
  * Otherwise nothing is written, and the answer is the first of these that applies:
@@ -86,9 +89,34 @@ uint32_t hookup_join(const uint8_t *a, size_t alen, const uint8_t *b, size_t ble
  * The bytes of out behind the last piece stay as they were.
  *
  * out may not overlap the record. A pointer may be null only where its length is 0. The call reads and writes nothing else, keeps
- * nothing, takes no lock, and may be made by several threads at once. It needs less than 6 KB of stack: 696 bytes were measured on
- * records of 64 states and 32 events, 3,816 on a first call. */
+ * nothing, takes no lock, and may be made by several threads at once. It needs less than 6 KB of stack: 776 bytes were measured on
+ * records of 64 states and 32 events, 3,880 on a first call. */
 uint32_t hookup_closure(const uint8_t *record, size_t len, uint8_t *out, size_t outlen);
+
+/* What hookup_explain writes: eight numbers of eight bytes, lowest byte first, as they lie in memory on x86-64. Where the part passes, the
+ * first five are 0. */
+struct hookup_explanation {
+    uint64_t rule;     /* the first broken rule, 1 to 5 */
+    uint64_t event;    /* the identifier of the event that breaks it */
+    uint64_t s;        /* the states of the break; t is 0 for rule 1, and u for rules 1 and 2 */
+    uint64_t t;
+    uint64_t u;
+    uint64_t taken;    /* how many states were taken up: the sizes of the silent closures of all states together, where the part passes
+                          or breaks rule 4 or 5; otherwise 0 */
+    uint64_t observer; /* the observer's level, where a rule is broken; 0 where the part passes */
+    uint64_t limit;    /* 1 where the part passes; 0 where a rule is broken */
+};
+
+/* Checks one part record as hookup_check does, and says more about it.
+ *
+ * Answers what hookup_check answers. On HOOKUP_PASS and on a break the first HOOKUP_EXPLANATION bytes of out then are a struct
+ * hookup_explanation, and the bytes behind them stay as they were. On a refusal of the record nothing is written; and where out has fewer
+ * bytes than that, the answer for a pass or a break is HOOKUP_NO_ROOM and nothing is written.
+ *
+ * out may not overlap the record. A pointer may be null only where its length is 0. The call reads and writes nothing else, keeps
+ * nothing, takes no lock, and may be made by several threads at once. It needs less than 10 KB of stack: 5,672 bytes were
+ * measured on records of 64 states and 32 events, 7,464 on a first call. */
+uint32_t hookup_explain(const uint8_t *record, size_t len, uint8_t *out, size_t outlen);
 
 #ifdef __cplusplus
 }

@@ -2,25 +2,27 @@
 
 use crate::closure::PIECE;
 use crate::dice::Dice;
-use crate::inputs::{span, Event, One, Pair, Table, HIGH, INPUT, LOW};
+use crate::inputs::{span, Event, Inputs, Table, HIGH, INPUT, LOW};
 use crate::{Version, VERSIONS};
 use std::collections::BTreeMap;
 
 /// Longer than any output.
 const ROOM: usize = 16_700;
 
+/// Bytes of an explanation.
+const EXPLANATION: usize = 64;
+
 /// How often each answer came, and how many comparisons failed.
+#[derive(Default)]
 pub struct Score {
     pub checks: BTreeMap<u32, usize>,
+    pub explanations: BTreeMap<u32, usize>,
     pub joins: BTreeMap<u32, usize>,
     pub closures: BTreeMap<u32, usize>,
     pub differences: usize,
 }
 
 impl Score {
-    pub fn new() -> Self {
-        Score { checks: BTreeMap::new(), joins: BTreeMap::new(), closures: BTreeMap::new(), differences: 0 }
-    }
 
     fn fault(&mut self, what: String) {
         self.differences += 1;
@@ -39,6 +41,19 @@ impl Score {
             }
         }
         *self.checks.entry(answer).or_default() += 1;
+        answer
+    }
+
+    /// The explanation, whose answer is also Check's unless there is no room.
+    pub fn explain(&mut self, name: &str, record: &[u8], room: usize) -> u32 {
+        let answer = self.output(&format!("explanation of {name}"), room, |version, out| (version.explain)(record, out));
+        let check = (VERSIONS[0].check)(record);
+        let judged = check == 0 || check > 100;
+        let due = if judged && room < EXPLANATION { 15 } else { check };
+        if answer != due {
+            self.fault(format!("explanation of {name}: {answer}, but {due} is due after Check"));
+        }
+        *self.explanations.entry(answer).or_default() += 1;
         answer
     }
 
@@ -72,25 +87,29 @@ impl Score {
         answer
     }
 
-    /// The timed inputs: also against the answers they are made for.
-    pub fn timed(&mut self, ones: &[One], pairs: &[Pair], closures: &[One]) {
-        for one in ones {
+    /// The timed inputs: also against the answers they are made for. Those of Check are explained too.
+    pub fn timed(&mut self, inputs: &Inputs) {
+        for one in &inputs.checks {
             let answer = self.check(&one.name(), &one.record);
-            if answer != one.answer {
-                self.fault(format!("check of {}: made for {}, library {answer}", one.name(), one.answer));
-            }
+            self.made_for(&one.name(), one.answer, answer);
         }
-        for pair in pairs {
+        for one in inputs.checks.iter().chain(&inputs.explanations) {
+            let answer = self.explain(&one.name(), &one.record, ROOM);
+            self.made_for(&one.name(), one.answer, answer);
+        }
+        for pair in &inputs.joins {
             let answer = self.join(&pair.name, &pair.a, &pair.b, ROOM);
-            if answer != pair.answer {
-                self.fault(format!("join of {}: made for {}, library {answer}", pair.name, pair.answer));
-            }
+            self.made_for(&pair.name, pair.answer, answer);
         }
-        for one in closures {
+        for one in &inputs.closures {
             let answer = self.closure(&one.name(), &one.record, ROOM);
-            if answer != one.answer {
-                self.fault(format!("closure of {}: made for {}, library {answer}", one.name(), one.answer));
-            }
+            self.made_for(&one.name(), one.answer, answer);
+        }
+    }
+
+    fn made_for(&mut self, name: &str, wanted: u32, answer: u32) {
+        if answer != wanted {
+            self.fault(format!("{name}: made for {wanted}, library {answer}"));
         }
     }
 
@@ -100,24 +119,25 @@ impl Score {
         for round in 0..rounds {
             let (a, b) = couple(dice);
             let (mut x, mut y) = (a.record(), b.record());
-            self.single(&format!("random part {round}"), &x, room(dice, PIECE * a.n()));
+            self.single(dice, &format!("random part {round}"), &x, a.n());
             self.join(&format!("random pair {round}"), &x, &y, room(dice, joined_len(&a, &b)));
             damage(dice, &mut x);
-            self.single(&format!("damaged part {round}"), &x, room(dice, PIECE * a.n()));
+            self.single(dice, &format!("damaged part {round}"), &x, a.n());
             self.join(&format!("damaged A {round}"), &x, &y, ROOM);
             damage(dice, &mut y);
             self.join(&format!("damaged B {round}"), &a.record(), &y, ROOM);
             let c = scattered(dice);
-            self.single(&format!("scattered part {round}"), &c.record(), room(dice, PIECE * c.n()));
+            self.single(dice, &format!("scattered part {round}"), &c.record(), c.n());
             let noise: Vec<u8> = (0..dice.below(40)).map(|_| dice.below(3) as u8).collect();
-            self.single(&format!("noise {round}"), &noise, room(dice, PIECE));
+            self.single(dice, &format!("noise {round}"), &noise, 1);
         }
     }
 
-    /// The calls on one record.
-    fn single(&mut self, name: &str, record: &[u8], room: usize) {
+    /// The calls on one record, which was made with n states.
+    fn single(&mut self, dice: &mut Dice, name: &str, record: &[u8], n: usize) {
         self.check(name, record);
-        self.closure(name, record, room);
+        self.explain(name, record, room(dice, EXPLANATION));
+        self.closure(name, record, room(dice, PIECE * n));
     }
 }
 

@@ -73,7 +73,7 @@ impl Table {
     }
 }
 
-/// A record for Check or its closures, with the answer it is made for.
+/// A record for Check, its closures or its explanation, with the answer it is made for.
 pub struct One {
     pub family: &'static str,
     pub n: usize,
@@ -162,8 +162,20 @@ const CLOSURES: &[Family] = &[
     ("closure up", 0, up),
     ("closure down", 0, down),
     ("closure full", 0, |n, m| full(single(n), m, OUTPUT, HIGH)),
+    ("closure ring", 0, |n, m| Table::new(single(n)).with(m, OUTPUT, HIGH, |_, s| turn(n, 0, s))),
     ("closure none", 0, |n, m| full(single(n), m, OUTPUT, LOW)),
     ("closure sparse", 0, sparse),
+];
+
+/// The records whose explanations are timed.
+const EXPLANATIONS: &[Family] = &[
+    ("explain output", 0, |n, m| full(pairs(n), m, OUTPUT, LOW)),
+    ("explain up", 0, up),
+    ("explain rule 1", 101, late1),
+    ("explain rule 2", 102, late2),
+    ("explain rule 3", 103, late3),
+    ("explain rule 4", 104, late4),
+    ("explain rule 5", 105, late5),
 ];
 
 /// Silent steps from each state to the next, in one class.
@@ -268,12 +280,30 @@ fn tiny3() -> Table {
     up(2, 1)
 }
 
-pub fn checks(ns: &[usize], ms: &[usize]) -> Vec<One> {
-    sized("tiny", FAMILIES, ns, ms)
+/// All that is timed.
+pub struct Inputs {
+    pub checks: Vec<One>,
+    pub explanations: Vec<One>,
+    pub joins: Vec<Pair>,
+    pub closures: Vec<One>,
 }
 
-pub fn closures(ns: &[usize], ms: &[usize]) -> Vec<One> {
-    sized("closure tiny", CLOSURES, ns, ms)
+impl Inputs {
+    /// Those whose names contain the text, with records in these sizes; the explanations in the least and the largest.
+    pub fn new(ns: &[usize], ms: &[usize], text: &str) -> Self {
+        let ends = |sizes: &[usize]| [sizes[0], sizes[sizes.len() - 1]];
+        let mut inputs = Inputs {
+            checks: sized("tiny", FAMILIES, ns, ms),
+            explanations: sized("explain tiny", EXPLANATIONS, &ends(ns), &ends(ms)),
+            joins: joins(),
+            closures: sized("closure tiny", CLOSURES, ns, ms),
+        };
+        for ones in [&mut inputs.checks, &mut inputs.explanations, &mut inputs.closures] {
+            ones.retain(|one| one.name().contains(text));
+        }
+        inputs.joins.retain(|pair| pair.name.contains(text));
+        inputs
+    }
 }
 
 /// The tiny records, then each family in its sizes.
@@ -292,7 +322,7 @@ fn sized(tiny: &'static str, families: &[Family], ns: &[usize], ms: &[usize]) ->
     ones
 }
 
-pub fn joins() -> Vec<Pair> {
+fn joins() -> Vec<Pair> {
     let mut list = Vec::new();
     let mut push = |name: &str, answer, a: &Table, b: &Table| {
         list.push(Pair { name: name.to_string(), n: a.n() * b.n(), answer, a: a.record(), b: b.record() });

@@ -9,7 +9,7 @@ mod proved;
 mod timing;
 
 use agree::Score;
-use inputs::{One, Pair};
+use inputs::{Inputs, One, Pair};
 use std::collections::BTreeMap;
 use std::hint::black_box;
 use std::io::Write;
@@ -54,18 +54,22 @@ impl Line {
 pub struct Version {
     pub name: &'static str,
     pub check: fn(&[u8]) -> u32,
+    pub explain: Writer,
     pub join: fn(&[u8], &[u8], &mut [u8]) -> u32,
-    pub closure: fn(&[u8], &mut [u8]) -> u32,
+    pub closure: Writer,
 }
+
+/// A call on a record that writes to a buffer.
+pub type Writer = fn(&[u8], &mut [u8]) -> u32;
 
 /// The proved library first.
 pub static VERSIONS: [Version; 3] = [
-    Version { name: "library", check: proved::check, join: proved::join, closure: proved::closure },
-    Version { name: "plain", check: fast::check_plain, join: fast::join_plain, closure: fast::closure_plain },
-    Version { name: "sharp", check: fast::check_sharp, join: fast::join_sharp, closure: fast::closure_sharp },
+    Version { name: "library", check: proved::check, explain: proved::explain, join: proved::join, closure: proved::closure },
+    Version { name: "plain", check: fast::check_plain, explain: fast::explain_plain, join: fast::join_plain, closure: fast::closure_plain },
+    Version { name: "sharp", check: fast::check_sharp, explain: fast::explain_sharp, join: fast::join_sharp, closure: fast::closure_sharp },
 ];
 
-/// The longest record has so many bytes; all closures have fewer.
+/// The longest record has so many bytes; closures and explanations have fewer.
 const LONGEST: usize = 16_586;
 
 /// From so many states on a record is not tiny.
@@ -74,15 +78,9 @@ const SMALL: usize = 8;
 fn main() {
     let flags = flags();
     let (ns, ms): (&[usize], &[usize]) = if flags.quick { (&[8, 64], &[8, 32]) } else { (&[8, 16, 32, 64], &[8, 16, 32]) };
-    let mut ones = inputs::checks(ns, ms);
-    let mut pairs = inputs::joins();
-    let mut closures = inputs::closures(ns, ms);
-    ones.retain(|one| one.name().contains(&flags.only));
-    pairs.retain(|pair| pair.name.contains(&flags.only));
-    closures.retain(|one| one.name().contains(&flags.only));
-
+    let inputs = Inputs::new(ns, ms, &flags.only);
     if let Some(calls) = flags.spin {
-        spin(&ones, &pairs, &closures, calls);
+        spin(&inputs, calls);
         return;
     }
 
@@ -90,22 +88,24 @@ fn main() {
         // Where it is missing, better now than after the timing.
         run(program, &[]);
     }
-    compare(&ones, &pairs, &closures, if flags.quick { 1_000 } else { 5_000 });
+    compare(&inputs, if flags.quick { 1_000 } else { 5_000 });
     let plan = Plan { batch: Duration::from_millis(1), rounds: if flags.quick { 5 } else { 15 } };
     println!();
     println!("hookup_check lies at {} mod 64.", proved::place());
     println!("Nanoseconds for a call, best (median) of {} rounds; each ratio is the library's best by the version's best", plan.rounds);
-    let checks = time_checks(plan, &ones);
-    let joins = time_joins(plan, &pairs);
-    let closures = time_closures(plan, &closures);
+    let checks = time_checks(plan, &inputs.checks);
+    let explanations = time_writer(plan, "explain", &inputs.explanations, |version| version.explain);
+    let joins = time_joins(plan, &inputs.joins);
+    let closures = time_writer(plan, "closure", &inputs.closures, |version| version.closure);
     if flags.only.is_empty() {
         growth(checks.iter().chain(&closures), ns, ms);
     }
     if let Some(program) = &flags.verdict {
-        end_to_end(program, &ones, if flags.quick { 50 } else { 300 });
+        end_to_end(program, &inputs.checks, if flags.quick { 50 } else { 300 });
     }
-    by_family(&checks, &joins, &closures);
-    sum_up(&checks, &joins, &closures);
+    let calls = [("check", checks), ("explain", explanations), ("join", joins), ("closure", closures)];
+    by_family(&calls);
+    sum_up(&calls);
 }
 
 fn flags() -> Flags {
@@ -130,14 +130,15 @@ fn usage(message: &str) -> ! {
 }
 
 /// Ends the run where an answer or a byte differs.
-fn compare(ones: &[One], pairs: &[Pair], closures: &[One], rounds: usize) {
-    let mut score = Score::new();
-    score.timed(ones, pairs, closures);
+fn compare(inputs: &Inputs, rounds: usize) {
+    let mut score = Score::default();
+    score.timed(inputs);
     score.random(1, rounds);
     println!("Compared with the library, as answer:times");
-    for (call, counts) in [("check", &score.checks), ("join", &score.joins), ("closure", &score.closures)] {
+    let answers = [("checks", &score.checks), ("explanations", &score.explanations), ("joins", &score.joins), ("closures", &score.closures)];
+    for (calls, counts) in answers {
         let parts: Vec<String> = counts.iter().map(|(answer, times)| format!("{answer}:{times}")).collect();
-        println!("  {} {call}s  {}", counts.values().sum::<usize>(), parts.join(" "));
+        println!("  {} {calls}  {}", counts.values().sum::<usize>(), parts.join(" "));
     }
     if score.differences > 0 {
         println!("{} differences", score.differences);
@@ -145,16 +146,20 @@ fn compare(ones: &[One], pairs: &[Pair], closures: &[One], rounds: usize) {
     }
 }
 
-fn spin(ones: &[One], pairs: &[Pair], closures: &[One], calls: usize) {
-    for one in ones {
-        repeat_check(&VERSIONS[0], &one.record, calls);
+fn spin(inputs: &Inputs, calls: usize) {
+    let library = &VERSIONS[0];
+    for one in &inputs.checks {
+        repeat_check(library, &one.record, calls);
     }
     let mut out = vec![0; LONGEST];
-    for pair in pairs {
-        repeat_join(&VERSIONS[0], pair, &mut out, calls);
+    for one in &inputs.explanations {
+        repeat_writer(library.explain, &one.record, &mut out, calls);
     }
-    for one in closures {
-        repeat_closure(&VERSIONS[0], &one.record, &mut out, calls);
+    for pair in &inputs.joins {
+        repeat_join(library, pair, &mut out, calls);
+    }
+    for one in &inputs.closures {
+        repeat_writer(library.closure, &one.record, &mut out, calls);
     }
 }
 
@@ -170,9 +175,9 @@ fn repeat_join(version: &Version, pair: &Pair, out: &mut [u8], calls: usize) {
     }
 }
 
-fn repeat_closure(version: &Version, record: &[u8], out: &mut [u8], calls: usize) {
+fn repeat_writer(writer: Writer, record: &[u8], out: &mut [u8], calls: usize) {
     for _ in 0..calls {
-        black_box((version.closure)(black_box(record), black_box(out)));
+        black_box(writer(black_box(record), black_box(out)));
     }
 }
 
@@ -188,22 +193,21 @@ fn time_join(plan: Plan, pair: &Pair) -> [Time; 3] {
     race(plan, VERSIONS.each_ref().map(job))
 }
 
-fn time_closure(plan: Plan, record: &[u8]) -> [Time; 3] {
-    let job = |version| {
-        let mut out = vec![0; LONGEST];
-        move |calls| repeat_closure(version, record, &mut out, calls)
-    };
-    race(plan, VERSIONS.each_ref().map(job))
-}
-
 fn time_checks(plan: Plan, ones: &[One]) -> Vec<Line> {
     heading("check");
     ones.iter().map(|one| line_of(one, time_check(plan, &one.record))).collect()
 }
 
-fn time_closures(plan: Plan, ones: &[One]) -> Vec<Line> {
-    heading("closure");
-    ones.iter().map(|one| line_of(one, time_closure(plan, &one.record))).collect()
+fn time_writer(plan: Plan, title: &str, ones: &[One], writer: fn(&Version) -> Writer) -> Vec<Line> {
+    heading(title);
+    let time = |record| {
+        let job = |version| {
+            let mut out = vec![0; LONGEST];
+            move |calls| repeat_writer(writer(version), record, &mut out, calls)
+        };
+        race(plan, VERSIONS.each_ref().map(job))
+    };
+    ones.iter().map(|one| line_of(one, time(&one.record))).collect()
 }
 
 fn line_of(one: &One, times: [Time; 3]) -> Line {
@@ -323,11 +327,11 @@ fn run(program: &Path, record: &[u8]) -> (Duration, String) {
     (start.elapsed(), String::from_utf8_lossy(&output.stdout).into_owned())
 }
 
-fn by_family(checks: &[Line], joins: &[Line], closures: &[Line]) {
+fn by_family(calls: &[(&str, Vec<Line>)]) {
     println!();
     println!("Ratios by family: least, geometric mean, largest");
     println!("{:<20}{:<30}{:<30}", "", VERSIONS[1].name, VERSIONS[2].name);
-    let all: Vec<&Line> = checks.iter().chain(joins).chain(closures).collect();
+    let all: Vec<&Line> = calls.iter().flat_map(|(_, lines)| lines).collect();
     for group in all.chunk_by(|x, y| x.family == y.family) {
         let columns = [1, 2].map(|version| {
             let ratios = group.iter().map(|line| line.ratio(version));
@@ -338,10 +342,9 @@ fn by_family(checks: &[Line], joins: &[Line], closures: &[Line]) {
     }
 }
 
-fn sum_up(checks: &[Line], joins: &[Line], closures: &[Line]) {
+fn sum_up(calls: &[(&str, Vec<Line>)]) {
     println!();
     println!("Summary");
-    let calls = [("check", checks), ("join", joins), ("closure", closures)];
     for version in [1, 2] {
         let name = VERSIONS[version].name;
         for (call, lines) in calls {
@@ -351,7 +354,7 @@ fn sum_up(checks: &[Line], joins: &[Line], closures: &[Line]) {
             let above = lines.iter().filter(|line| line.ratio(version) > 1.5).count();
             println!("  {call} against {name}: largest ratio {worst}; above 1.5 at {above} of {} inputs", lines.len());
         }
-        let full: Vec<&Line> = checks.iter().filter(|line| line.family.starts_with("full")).collect();
+        let full: Vec<&Line> = calls[0].1.iter().filter(|line| line.family.starts_with("full")).collect();
         if let Some(n) = full.iter().map(|line| line.n).max() {
             let large: Vec<&Line> = full.iter().copied().filter(|line| line.n == n).collect();
             let (mean, at_most) = (mean(&full, version), mean(&large, version));

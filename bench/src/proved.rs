@@ -1,4 +1,4 @@
-//! The proved library's three C entries.
+//! The proved library's four C entries.
 
 // Code before the library's, to move it: where its loops lie in the cache lines changes their speed.
 std::arch::global_asm!(
@@ -15,6 +15,7 @@ extern "C" {
     fn hookup_check(record: *const u8, len: usize) -> u32;
     fn hookup_join(a: *const u8, alen: usize, b: *const u8, blen: usize, out: *mut u8, outlen: usize) -> u32;
     fn hookup_closure(record: *const u8, len: usize, out: *mut u8, outlen: usize) -> u32;
+    fn hookup_explain(record: *const u8, len: usize, out: *mut u8, outlen: usize) -> u32;
 }
 
 /// Where the library's code begins within a cache line.
@@ -36,4 +37,9 @@ pub fn join(a: &[u8], b: &[u8], out: &mut [u8]) -> u32 {
 pub fn closure(record: &[u8], out: &mut [u8]) -> u32 {
     // SAFETY: the slice is readable, `out` is writable and, being a mutable borrow, does not overlap it.
     unsafe { hookup_closure(record.as_ptr(), record.len(), out.as_mut_ptr(), out.len()) }
+}
+
+pub fn explain(record: &[u8], out: &mut [u8]) -> u32 {
+    // SAFETY: as for the closure.
+    unsafe { hookup_explain(record.as_ptr(), record.len(), out.as_mut_ptr(), out.len()) }
 }

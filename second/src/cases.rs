@@ -116,7 +116,7 @@ pub fn breaking(rng: &mut Rng, minimum: usize) -> Vec<Vec<u8>> {
 }
 
 /// One state can break rule 1 only: an input has no step.
-fn one_state_without_a_step(rng: &mut Rng) -> record::Part {
+pub fn one_state_without_a_step(rng: &mut Rng) -> record::Part {
     let m = rng.range(1, 5);
     let mut part = make::passing_of_size(rng, 1, m);
     let e = rng.below(m);

@@ -3,7 +3,7 @@
 use crate::check::{self, Verdict};
 use crate::closure::{self, ClosureAnswer, PIECE};
 use crate::record::{self, Part};
-use crate::wrong_closure::{self, ORDERS, STEPS};
+use crate::wrong_closure::{self, DISTANCES, LONGEST_WAY, ORDERS, STEPS};
 
 /// Is this a category that must come up most often?
 pub fn is_main(name: &str) -> bool {
@@ -16,8 +16,10 @@ const NO_WRONG_ORDER: &str = "closed, no wrong order gives the visits from some 
 /// The longest closures, of 64 states.
 pub const LONGEST: usize = 64 * PIECE;
 
-/// The wrong orders are tried on parts of so many states at most; on larger ones they would take too long.
+/// The wrong orders and distances are tried on parts of so many states at most; on larger ones they would take too
+/// long. The longest ways are tried on fewer.
 const MOST_STATES_MISREAD: usize = 24;
+const MOST_STATES_LONGEST_WAY: usize = 5;
 
 /// Every category.
 pub fn names() -> Vec<String> {
@@ -56,7 +58,11 @@ pub fn names() -> Vec<String> {
         "closed, 64 visits",
         "closed, 64 visits, rising",
         "closed, 64 visits, falling",
-        "closed, 64 visits, the last 63 quiet steps away",
+        "closed, 64 visits, the last at distance 63",
+        "closed, 64 visits, all behind s at distance 1",
+        "closed, 8 visits or more at a distance above 1",
+        "closed, several visits at each of three distances",
+        "closed, 8 distances or more, several visits at one of them",
         "closed, 32 visits or more, neither rising nor falling behind s",
         "closed, state 0 the last visit",
         "closed, state 0 neither the first visit nor the last",
@@ -67,6 +73,9 @@ pub fn names() -> Vec<String> {
     }
     for (name, _) in ORDERS {
         names.push(format!("wrong order differs: {}", name));
+    }
+    for (name, _) in DISTANCES {
+        names.push(format!("wrong distances differ: {}", name));
     }
     for (name, _) in STEPS {
         names.push(format!("wrong steps differ: {}", name));
@@ -79,12 +88,14 @@ pub fn of_closure(bytes: &[u8], room: usize, answer: ClosureAnswer) -> Vec<Strin
     match answer {
         ClosureAnswer::Length(length) => {
             let part = record::read(bytes).unwrap();
+            let table = check::quiet_steps(&part);
+            let reaches = check::quiet_reaches(&part);
             let mut names = vec![CLOSED.to_string(), rule_name(bytes)];
             names.extend(size_names(&part, room - length));
-            names.extend(event_names(&part));
-            names.extend(table_names(&part));
-            names.extend(visit_names(&part));
-            names.extend(wrong_step_names(&part));
+            names.extend(event_names(&part, &reaches));
+            names.extend(table_names(&table, &reaches));
+            names.extend(visit_names(&table));
+            names.extend(wrong_step_names(&part, &table, &reaches));
             names
         }
         ClosureAnswer::Refused(15) => no_room_names(&record::read(bytes).unwrap(), room),
@@ -143,7 +154,7 @@ fn size_names(part: &Part, spare: usize) -> Vec<String> {
     names
 }
 
-fn event_names(part: &Part) -> Vec<String> {
+fn event_names(part: &Part, reaches: &[Vec<bool>]) -> Vec<String> {
     let quiet: Vec<usize> = (0..part.event_count()).filter(|&e| check::is_quiet(part, e)).collect();
     let has_step = |e: usize| part.steps[e].iter().any(|row| row.contains(&true));
     let mut names = Vec::new();
@@ -152,8 +163,7 @@ fn event_names(part: &Part) -> Vec<String> {
     } else if !quiet.iter().any(|&e| has_step(e)) {
         names.push("closed, quiet events without a step".to_string());
     }
-    let reaches = check::quiet_reaches(part);
-    if quiet.len() >= 3 && quiet.iter().all(|&e| is_needed(part, &reaches, e)) {
+    if quiet.len() >= 3 && quiet.iter().all(|&e| is_needed(part, reaches, e)) {
         names.push("closed, three quiet events or more, none to be spared".to_string());
     }
     names
@@ -168,16 +178,15 @@ fn is_needed(part: &Part, reaches: &[Vec<bool>], e: usize) -> bool {
 }
 
 /// By the single quiet steps; those that stay in their state do not count for a shape.
-fn table_names(part: &Part) -> Vec<String> {
-    let n = part.state_count();
-    let table = check::quiet_steps(part);
+fn table_names(table: &[Vec<bool>], reaches: &[Vec<bool>]) -> Vec<String> {
+    let n = table.len();
     let stays = (0..n).filter(|&s| table[s][s]).count();
     let leading = |s: usize| (0..n).filter(|&t| t != s && table[s][t]).count();
     let steps: usize = (0..n).map(leading).sum();
     let one_leads_to_all = (0..n).any(|s| leading(s) == n - 1);
     let all_lead_to_one = (0..n).any(|t| (0..n).filter(|&s| s != t && table[s][t]).count() == n - 1);
     let one_each = (0..n).all(|s| leading(s) == 1);
-    let all_from_each = check::quiet_reaches(part).iter().all(|reach| !reach.contains(&false));
+    let all_from_each = reaches.iter().all(|reach| !reach.contains(&false));
     let mut names = Vec::new();
     let mut add = |applies: bool, name: &str| {
         if applies {
@@ -198,14 +207,17 @@ fn table_names(part: &Part) -> Vec<String> {
 }
 
 /// By the visits: a category counts once where the visits from some state belong to it.
-fn visit_names(part: &Part) -> Vec<String> {
-    let table = check::quiet_steps(part);
+fn visit_names(table: &[Vec<bool>]) -> Vec<String> {
     let mut names = Vec::new();
-    for s in 0..part.state_count() {
-        let visits = closure::visits(&table, s);
-        let mut found = names_of_visits(&table, &visits);
-        if part.state_count() <= MOST_STATES_MISREAD {
-            found.extend(wrong_order_names(&table, &visits));
+    for s in 0..table.len() {
+        let least = closure::least_steps(table, s);
+        let visits = closure::visits(&least);
+        let distances = closure::distances(&least, &visits);
+        let mut found = names_of_visits(&visits);
+        found.extend(names_of_distances(&distances));
+        if table.len() <= MOST_STATES_MISREAD {
+            found.extend(wrong_order_names(table, &visits));
+            found.extend(wrong_distance_names(table, &least, &visits, &distances));
         }
         found.retain(|name| !names.contains(name));
         names.extend(found);
@@ -213,7 +225,7 @@ fn visit_names(part: &Part) -> Vec<String> {
     names
 }
 
-fn names_of_visits(table: &[Vec<bool>], visits: &[usize]) -> Vec<String> {
+fn names_of_visits(visits: &[usize]) -> Vec<String> {
     let count = visits.len();
     let last = visits[count - 1];
     let rises = |visits: &[usize]| visits.windows(2).all(|pair| pair[0] < pair[1]);
@@ -229,8 +241,6 @@ fn names_of_visits(table: &[Vec<bool>], visits: &[usize]) -> Vec<String> {
         add(true, "closed, 64 visits");
         add(rises(visits), "closed, 64 visits, rising");
         add(falls(visits), "closed, 64 visits, falling");
-        let farthest = wrong_closure::distances(table, visits[0])[last] == Some(63);
-        add(farthest, "closed, 64 visits, the last 63 quiet steps away");
     }
     if count >= 32 {
         let is_mixed = !rises(&visits[1..]) && !falls(&visits[1..]);
@@ -239,6 +249,28 @@ fn names_of_visits(table: &[Vec<bool>], visits: &[usize]) -> Vec<String> {
     add(count > 1 && last == 0, "closed, state 0 the last visit");
     add(is_inside(0), "closed, state 0 neither the first visit nor the last");
     add(is_inside(63), "closed, state 63 neither the first visit nor the last");
+    names
+}
+
+fn names_of_distances(distances: &[usize]) -> Vec<String> {
+    let count = distances.len();
+    let farthest = distances[count - 1];
+    let mut at = vec![0; farthest + 1];
+    for &distance in distances {
+        at[distance] += 1;
+    }
+    let several = at.iter().filter(|&&visits| visits > 1).count();
+    let mut names = Vec::new();
+    let mut add = |applies: bool, name: &str| {
+        if applies {
+            names.push(name.to_string());
+        }
+    };
+    add(count == 64 && farthest == 63, "closed, 64 visits, the last at distance 63");
+    add(count == 64 && farthest == 1, "closed, 64 visits, all behind s at distance 1");
+    add(at.iter().skip(2).any(|&visits| visits >= 8), "closed, 8 visits or more at a distance above 1");
+    add(several >= 3, "closed, several visits at each of three distances");
+    add(farthest >= 8 && several > 0, "closed, 8 distances or more, several visits at one of them");
     names
 }
 
@@ -256,10 +288,28 @@ fn wrong_order_names(table: &[Vec<bool>], visits: &[usize]) -> Vec<String> {
     names
 }
 
+/// The wrong distances that would show beside these visits.
+fn wrong_distance_names(
+    table: &[Vec<bool>],
+    least: &[Option<usize>],
+    visits: &[usize],
+    distances: &[usize],
+) -> Vec<String> {
+    let right = closure::entry_bytes(distances);
+    let mut names = Vec::new();
+    for (name, numbers) in DISTANCES {
+        if name == LONGEST_WAY && table.len() > MOST_STATES_LONGEST_WAY {
+            continue;
+        }
+        if closure::entry_bytes(&numbers(table, least, visits)) != right {
+            names.push(format!("wrong distances differ: {}", name));
+        }
+    }
+    names
+}
+
 /// The wrong tables of quiet steps that would show in some set.
-fn wrong_step_names(part: &Part) -> Vec<String> {
-    let right = check::quiet_steps(part);
-    let reaches = check::quiet_reaches(part);
+fn wrong_step_names(part: &Part, right: &[Vec<bool>], reaches: &[Vec<bool>]) -> Vec<String> {
     let mut names = Vec::new();
     for (name, counts) in STEPS {
         let table = wrong_closure::steps_by(part, counts);

@@ -1,4 +1,4 @@
 pub mod Search
 pub mod Truth
+pub mod Lists
 pub mod Paths
-pub mod Visits

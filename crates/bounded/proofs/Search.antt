@@ -1,15 +1,16 @@
 -- The laws of bounded searches: what an answer tells of each number below the bound, and how a loop that has searched
 -- below i goes on.
-use Prim.Native.Nat.{ℕ, zero, suc, _+_, _≤_, _<_}
+use Prim.Native.Nat.{ℕ, zero, suc, _+_, _*_, _≤_, _<_}
 use mathlib.Core.Path.{_≡_, refl, sym, ap, _∙_, subst}
 use mathlib.Core.Bool.{Bool, true, false, not, _||_, _&&_, cond, or-true, or-false}
 use mathlib.Core.Option.{Option, none, some}
 use mathlib.Core.Logic.{_↔_, _⊎_, inl, inr, ⊎-elim}
-use native.Mathlib.Nat.{eq-or-lt-of-le, le-of-suc-le-suc, not-suc-le-zero, lt-suc-self, le-step, add-zero}
+use native.Mathlib.Nat.{eq-or-lt-of-le, le-of-suc-le-suc, not-suc-le-zero, lt-suc-self, le-step, suc-mul}
 use native.Mathlib.Numerals.{add-one}
 use native.Mathlib.Omega.{arith}
-use lib.Dec.{T}
-use Rattle.bounded.specs.Search.{any, all, or-else, when, first, least, count}
+use borrow.Author.Tests.{eq-eqb, ne-eqb}
+use lib.Dec.{T, eqb}
+use Rattle.bounded.specs.Search.{any, all, or-else, when, first, least, count, total}
 
 -- ---- tests
 
@@ -83,7 +84,7 @@ not-refuted true b h = ap not (h refl)
 not-refuted false b h = refl
 
 -- A number below n + 1 is n or below n.
-last-or-below : {i n : ℕ} → i < suc n → (i ≡ n) ⊎ (i < n)
+pub last-or-below : {i n : ℕ} → i < suc n → (i ≡ n) ⊎ (i < n)
 last-or-below h = eq-or-lt-of-le (le-of-suc-le-suc h)
 
 -- ---- any
@@ -309,20 +310,87 @@ unfolding count
 count-none zero = refl
 count-none (suc n) = rw (count-none n)
 
--- One number more passes.
-pub count-more : (n : ℕ) (f g : ℕ → Bool) (t : ℕ) → t < n → f t ≡ false → g t ≡ true
-    → ((i : ℕ) → (i ≡ t → ⊥) → f i ≡ g i)
-    → count n g ≡ suc (count n f)
+-- One number passes.
+pub count-one : (n s : ℕ) → s < n → count n (λ t. eqb s t) ≡ 1
 unfolding count
-count-more zero f g t h p q same = absurd (not-suc-le-zero h)
-count-more (suc n) f g t h p q same =
+count-one zero s h = absurd (not-suc-le-zero h)
+count-one (suc n) s h =
     ⊎-elim
     (λ e.
-    let rest : count n f ≡ count n g = count-same n f g (λ i l. same i (λ z. omega arith)) in
-    let top : f n ≡ false = subst (λ (k : ℕ). f k ≡ false) e p in
-    let top' : g n ≡ true = subst (λ (k : ℕ). g k ≡ true) e q in
-    rw (top, top', rest) (add-one _ ∙ ap suc (sym (add-zero _))))
-    (λ l.
-    let rest : count n g ≡ suc (count n f) = count-more n f g t l p q same in
-    rw (rest, same n (λ z. omega arith)) (omega arith))
+    let none-before = count-same n _ (λ t. false) (λ t l. ne-eqb s t (λ d. omega arith)) ∙ count-none n in
+    rw (none-before, eq-eqb s n e))
+    (λ l. rw (count-one n s l, ne-eqb s n (λ e. omega arith)))
     (last-or-below h)
+
+-- Where one test passes another does: it passes at least as often, and more often if it passes once where the first
+-- does not.
+module _ (f g : ℕ → Bool) where
+  one-le : (i : ℕ) → (f i ≡ true → g i ≡ true) → cond (f i) 1 0 ≤ cond (g i) 1 0
+  one-le i h = le (f i) (g i) h
+    where
+      le : (p q : Bool) → (p ≡ true → q ≡ true) → cond p 1 0 ≤ cond q 1 0
+      le true true h = omega arith
+      le true false h = absurd (true-not-false (h refl) refl)
+      le false true h = omega arith
+      le false false h = omega arith
+
+  pub count-wider : (n : ℕ) → ((i : ℕ) → i < n → f i ≡ true → g i ≡ true) → count n f ≤ count n g
+  unfolding count
+  count-wider zero h = omega arith
+  count-wider (suc n) h = omega (arith, count-wider n (λ i l. h i (le-step l)), one-le n (h n (lt-suc-self n)))
+
+  pub count-grows : (n t : ℕ) → t < n → f t ≡ false → g t ≡ true → ((i : ℕ) → i < n → f i ≡ true → g i ≡ true)
+      → count n f < count n g
+  unfolding count
+  count-grows zero t l p q h = absurd (not-suc-le-zero l)
+  count-grows (suc n) t l p q h =
+      let rest : (i : ℕ) → i < n → f i ≡ true → g i ≡ true = λ i l. h i (le-step l) in
+      ⊎-elim
+      (λ e.
+      let top : f n ≡ false = subst (λ (k : ℕ). f k ≡ false) e p in
+      let top' : g n ≡ true = subst (λ (k : ℕ). g k ≡ true) e q in
+      rw (top, top') (omega (arith, count-wider n rest)))
+      (λ m. omega (arith, count-grows n t m p q rest, one-le n (h n (lt-suc-self n))))
+      (last-or-below l)
+
+-- At least one where some number passes.
+pub count-some : (n : ℕ) (f : ℕ → Bool) (t : ℕ) → t < n → f t ≡ true → 1 ≤ count n f
+count-some n f t h e =
+    omega (
+      arith,
+      count-none n,
+      count-grows (λ i. false) f n t h refl e (λ i l w. absurd (true-not-false w refl)),
+    )
+
+-- How many pass one of two tests: those that pass the first, and those that pass the second alone.
+pub count-or : (n : ℕ) (f g : ℕ → Bool) → count n (λ i. f i || g i) ≡ count n f + count n (λ i. g i && not (f i))
+unfolding count
+count-or zero f g = refl
+count-or (suc n) f g = rw (count-or n f g) (one (f n) (g n) (count n f) (count n (λ i. g i && not (f i))))
+  where
+    one : (p q : Bool) (j k : ℕ) → j + k + cond (p || q) 1 0 ≡ j + cond p 1 0 + (k + cond (q && not p) 1 0)
+    one true true j k = omega arith
+    one true false j k = omega arith
+    one false true j k = omega arith
+    one false false j k = omega arith
+
+-- ---- sums
+
+pub total-same : (n : ℕ) (f g : ℕ → ℕ) → ((i : ℕ) → i < n → f i ≡ g i) → total n f ≡ total n g
+unfolding total
+total-same zero f g h = refl
+total-same (suc n) f g h = rw (total-same n f g (λ i l. h i (le-step l)), h n (lt-suc-self n))
+
+pub total-next : (f : ℕ → ℕ) (i : ℕ) → total (i + 1) f ≡ total i f + f i
+unfolding total
+total-next f i = rw (add-one i)
+
+-- Terms within bounds.
+pub total-within : (n low high : ℕ) (f : ℕ → ℕ) → ((i : ℕ) → i < n → (low ≤ f i) × (f i ≤ high))
+    → (n * low ≤ total n f) × (total n f ≤ n * high)
+unfolding total
+total-within zero low high f h = (omega arith, omega arith)
+total-within (suc n) low high f h =
+    let (least, most) = total-within n low high f (λ i l. h i (le-step l)) in
+    let (p, q) = h n (lt-suc-self n) in
+    (rw (suc-mul n low) (omega arith), rw (suc-mul n high) (omega arith))

@@ -1,7 +1,8 @@
--- Searches over the numbers below a bound. They compute, try 0, 1, 2, .. in that order, and a loop that has tried the numbers below i has
--- computed exactly the search below i.
+-- Searches over the numbers below a bound, and what is collected from them. They compute, try 0, 1, 2, .. in that order, and a loop that
+-- has tried the numbers below i has computed exactly the search below i.
 use Prim.Native.Nat.{ℕ, zero, suc, _+_, _<_}
 use mathlib.Core.Bool.{Bool, true, false, _||_, _&&_, cond}
+use mathlib.Core.List.{List, [], _∷_, _++_}
 use mathlib.Core.Option.{Option, none, some}
 
 -- A number below n.
@@ -41,3 +42,17 @@ least n test = first n (λ i. when (test i) i)
 unfoldable pub count : ℕ → (ℕ → Bool) → ℕ
 count zero test = 0
 count (suc n) test = count n test + cond (test n) 1 0
+
+-- The sum over the numbers below n.
+unfoldable pub total : ℕ → (ℕ → ℕ) → ℕ
+total zero size = 0
+total (suc n) size = total n size + size n
+
+-- chunk 0, chunk 1, .., chunk (n - 1), one behind the other.
+unfoldable pub each : ℕ → (ℕ → List ℕ) → List ℕ
+each zero chunk = []
+each (suc n) chunk = each n chunk ++ chunk n
+
+-- The numbers below n that pass the test, lowest first.
+unfoldable pub listed : ℕ → (ℕ → Bool) → List ℕ
+listed n test = each n (λ i. cond (test i) (i ∷ []) [])

@@ -1,98 +1,124 @@
--- The bytes of a piece: how many they are, how they are laid, and that the visits by rows give the piece of the record.
+-- The bytes of a piece: how many they are, how they are laid, and that the piece by rows is the piece of the record.
 use Prim.Native.Nat.{ℕ, _+_, _*_, _≤_, _<_}
-use mathlib.Core.Path.{_≡_, sym, ap, _∙_}
+use mathlib.Core.Path.{_≡_, refl, sym, ap, _∙_}
 use mathlib.Core.Bool.{Bool}
-use mathlib.Core.List.{List}
+use mathlib.Core.List.{List, _++_}
 use native.Mathlib.Nat.{zero-add}
 use native.Mathlib.Omega.{arith}
-use lib.ListN.{length, length-append}
-use Rattle.bounded.specs.Paths.{has, visits-by}
-use Rattle.bounded.proofs.Visits.{has-via, visited-within, visits-at-most}
+use lib.ListN.{length, length-append, length-map}
+use Rattle.bounded.specs.Search.{each}
+use Rattle.bounded.specs.Paths.{reaches, visits-by, distances-by}
+use Rattle.bounded.proofs.Search.{count-le}
+use Rattle.bounded.proofs.Lists.{each-same}
+use Rattle.bounded.proofs.Paths.{length-visits, reaches-wider, visits-wider, distances-wider}
 use Rattle.words.specs.Arrays.{padded}
 use Rattle.words.specs.Laid.{over}
-use Rattle.words.specs.LittleEndian.{digits, each}
+use Rattle.words.specs.LittleEndian.{digits}
 use Rattle.words.specs.Sets.{bit, mask, Rows}
 use Rattle.words.proofs.Arrays.{length-padded}
-use Rattle.words.proofs.LittleEndian.{length-digits, length-each, each-same}
+use Rattle.words.proofs.LittleEndian.{length-digits, length-each}
 use Rattle.words.proofs.LaidLaws.{over-append, each-turn}
-use Rattle.words.proofs.Sets.{mask-same, mask-wider, represents-mask}
+use Rattle.words.proofs.Sets.{mask-same, mask-wider, none-above, represents-mask}
 use Rattle.part.specs.Record.{observer, states}
 use Rattle.part.specs.Rejections.{Accepted}
 use Rattle.part.proofs.Ranges.{frame}
 use Rattle.relations.specs.declared.silent.Closure.{Closure}
-use Rattle.relations.specs.Relations.{step-by, silent-step, reach-for, reach, visits-for, visits}
+use Rattle.relations.specs.Relations.{step-by, silent-step, reach-for, visits-for, distances-for}
 use Rattle.relations.specs.Sets.{Concerned, in-rows, ClosureFrom}
-use Rattle.relations.proofs.Searches.{rows-visits}
 use Rattle.relations.proofs.SilentReach.{silent-steps, silent-within, reach-within}
 use Rattle.relations.proofs.Theorems.{rows-within}
 use Rattle.closure.specs.Closures.{piece-bytes, piece, pieces}
-use Rattle.closure.specs.Pieces.{visits-bytes}
+use Rattle.closure.specs.Pieces.{piece-by}
 
 -- ---- how many bytes
 
-length-piece-bytes : (set : ℕ) (xs : List ℕ) → length xs ≤ 64 → length (piece-bytes set xs) ≡ 72
-unfolding piece-bytes
-length-piece-bytes set xs h =
+visits-few : (step : ℕ → ℕ → Bool) (n s : ℕ) → length (visits-by step n s) ≤ n
+visits-few step n s = omega (arith, length-visits step n s, count-le n (reaches step n s))
+
+length-distances : (step : ℕ → ℕ → Bool) (n s : ℕ) → length (distances-by step n s) ≡ length (visits-by step n s)
+unfolding distances-by
+length-distances step n s = length-map (visits-by step n s) _
+
+front-length : (set : ℕ) (xs : List ℕ) → length xs ≤ 64 → length (digits 8 set ++ padded 64 xs) ≡ 72
+front-length set xs h =
     length-append (digits 8 set) (padded 64 xs) ∙ omega (arith, length-digits 8 set, length-padded 64 xs h)
+
+pub length-piece-by : (step : ℕ → ℕ → Bool) (n s : ℕ) → n ≤ 64 → length (piece-by step n s) ≡ 136
+unfolding piece-by piece-bytes
+length-piece-by step n s h =
+    let set = mask n (reaches step n s) in
+    let few = visits-few step n s in
+    let fit : length (distances-by step n s) ≤ 64 = omega (arith, length-distances step n s) in
+    length-append (digits 8 set ++ padded 64 (visits-by step n s)) (padded 64 (distances-by step n s))
+    ∙ omega (
+      arith,
+      front-length set (visits-by step n s) (omega arith),
+      length-padded 64 (distances-by step n s) fit,
+    )
 
 -- ---- a piece is laid
 
-pub piece-laid : (out : List ℕ) (at s : ℕ) (step : ℕ → ℕ → Bool) {c : Closure} {next last : List ℕ} → s < 64
-    → ClosureFrom step 64 s c → next ≡ over out at (digits 8 (c .set)) → last ≡ over next (at + 8) (c .visits)
-    → last ≡ over out at (visits-bytes (visits-by step 64 s))
-unfolding visits-bytes piece-bytes
-piece-laid out at s step {c} h found first second =
-    let visits = visits-by step 64 s in
-    let set : c .set ≡ mask 64 (has visits) = represents-mask 64 (c .set) (has visits)
-    (λ t. visited-within step 64 s t h) (found .set) in
-    second ∙ rw (first, found .visits, set)
-    (ap (λ (k : ℕ). over (over out at (digits 8 (mask 64 (has visits)))) (at + k) (padded 64 visits))
-    (sym (length-digits 8 (mask 64 (has visits))))
-    ∙ sym (over-append out at (digits 8 (mask 64 (has visits))) (padded 64 visits)))
+pub piece-laid : (out : List ℕ) (at s : ℕ) (step : ℕ → ℕ → Bool) {c : Closure} {first second last : List ℕ}
+    → ClosureFrom step 64 s c
+    → first ≡ over out at (digits 8 (c .set)) → second ≡ over first (at + 8) (c .visits)
+    → last ≡ over second (at + 72) (c .distances) → last ≡ over out at (piece-by step 64 s)
+unfolding piece-by piece-bytes
+piece-laid out at s step {c} found p q r =
+    let set = mask 64 (reaches step 64 s) in
+    let visits = padded 64 (visits-by step 64 s) in
+    let distances = padded 64 (distances-by step 64 s) in
+    let whole : c .set ≡ set =
+    represents-mask 64 (c .set) (reaches step 64 s)
+    (λ t l. sym (found .set t) ∙ none-above (c .set) 64 t (found .small) l) (found .set) in
+    let front = front-length set (visits-by step 64 s) (visits-few step 64 s) in
+    r ∙ rw (q, p, found .visits, found .distances, whole)
+    (ap (λ (k : ℕ). over (over (over out at (digits 8 set)) (at + k) visits) (at + 72) distances)
+    (sym (length-digits 8 set))
+    ∙ ap (λ (l : List ℕ). over l (at + 72) distances) (sym (over-append out at (digits 8 set) visits))
+    ∙ ap (λ (k : ℕ). over (over out at (digits 8 set ++ visits)) (at + k) distances) (sym front)
+    ∙ sym (over-append out at (digits 8 set ++ visits) distances))
 
 -- One piece more is laid behind those of the states below s.
-pub pieces-turn : (out : List ℕ) (step : ℕ → ℕ → Bool) (s : ℕ) {before next : List ℕ} → s < 64
-    → before ≡ over out 0 (each s (λ u. visits-bytes (visits-by step 64 u)))
-    → next ≡ over before (s * 72) (visits-bytes (visits-by step 64 s))
-    → next ≡ over out 0 (each (s + 1) (λ u. visits-bytes (visits-by step 64 u)))
-unfolding visits-bytes
-pieces-turn out step s {before} h laid e =
-    e ∙ ap (λ (k : ℕ). over before k (visits-bytes (visits-by step 64 s))) (sym (zero-add (s * 72)))
-    ∙ rw laid (each-turn out 0 s 72 _ (λ u l. length-piece-bytes _ _ (visits-at-most step 64 u (omega arith))))
+pub pieces-turn : (out : List ℕ) (step : ℕ → ℕ → Bool) (s : ℕ) {before next : List ℕ}
+    → before ≡ over out 0 (each s (piece-by step 64))
+    → next ≡ over before (s * 136) (piece-by step 64 s)
+    → next ≡ over out 0 (each (s + 1) (piece-by step 64))
+pieces-turn out step s {before} laid e =
+    e ∙ ap (λ (k : ℕ). over before k (piece-by step 64 s)) (sym (zero-add (s * 136)))
+    ∙ rw laid (each-turn out 0 s 136 _ (λ u l. length-piece-by step 64 u (omega arith)))
 
 -- ---- the record's pieces
 
+piece-own : (b : List ℕ) (s : ℕ) → piece b s ≡ piece-by (silent-step b (observer b)) (states b) s
+unfolding piece piece-by reach-for visits-for distances-for
+piece-own b s = refl
+
 module _ (b : List ℕ) (a : Accepted b) (silent : ℕ) (of : Concerned b (observer b) 3 silent) (rows : List ℕ)
     (told : Rows (states b) rows (step-by b (bit silent))) where
-  same-visits : (s : ℕ) → s < states b → visits-by (in-rows rows) 64 s ≡ visits b s
-  unfolding visits-for
-  same-visits s h =
-      rows-visits rows (silent-step b (observer b)) (states b) (frame b a .few .most-states)
-      (λ u l t. told u l t ∙ silent-steps b _ silent of u t) (silent-within b _ (rows-within b a)) s h
+  same-piece : (s : ℕ) → s < states b → piece-by (in-rows rows) 64 s ≡ piece b s
+  unfolding piece-by in-rows reach-for
+  same-piece s h =
+      let step = silent-step b (observer b) in
+      let few = frame b a .few .most-states in
+      let stays = silent-within b (observer b) (rows-within b a) in
+      let same : (u t : ℕ) → u < states b → in-rows rows u t ≡ step u t = λ u t l.
+      told u l t ∙ silent-steps b _ silent of u t in
+      let reached = reaches-wider (in-rows rows) step (states b) 64 few same stays s h in
+      let set : mask 64 (reaches (in-rows rows) 64 s) ≡ mask (states b) (reaches step (states b) s) =
+      mask-same 64 _ _ (λ t l. reached t)
+      ∙ mask-wider (states b) 64 _ few (λ t l. reach-within b (observer b) (rows-within b a) s t h l) in
+      rw (
+        set,
+        visits-wider (in-rows rows) step (states b) 64 few same stays s h,
+        distances-wider (in-rows rows) step (states b) 64 few same stays s h,
+      ) (sym (piece-own b s))
 
-  visited-reach : (s t : ℕ) → s < states b → has (visits b s) t ≡ reach b s t
-  unfolding visits-for reach-for
-  visited-reach s t h = has-via _ (states b) (silent-within b _ (rows-within b a)) s t h
-
-  pub piece-visits : (s : ℕ) → s < states b → visits-bytes (visits-by (in-rows rows) 64 s) ≡ piece b s
-  unfolding visits-bytes piece
-  piece-visits s h =
-      let set : mask 64 (has (visits b s)) ≡ mask (states b) (reach b s) =
-      mask-wider (states b) 64 _ (frame b a .few .most-states)
-      (λ t l. visited-reach s t h ∙ reach-within b _ (rows-within b a) s t h l)
-      ∙ mask-same (states b) _ _ (λ t l. visited-reach s t h) in
-      ap visits-bytes (same-visits s h) ∙ ap (λ (x : ℕ). piece-bytes x (visits b s)) set
-
-  pub pieces-visits : each (states b) (λ s. visits-bytes (visits-by (in-rows rows) 64 s)) ≡ pieces b
+  pub same-pieces : each (states b) (piece-by (in-rows rows) 64) ≡ pieces b
   unfolding pieces
-  pieces-visits = each-same (states b) _ _ piece-visits
+  same-pieces = each-same (states b) _ _ same-piece
 
-pub length-piece : (b : List ℕ) → Accepted b → (s : ℕ) → s < states b → length (piece b s) ≡ 72
-unfolding piece visits-for
-length-piece b a s h =
-    length-piece-bytes _ _
-    (omega (arith, visits-at-most (silent-step b (observer b)) (states b) s h, frame b a .few .most-states))
-
-pub length-pieces : (b : List ℕ) → Accepted b → length (pieces b) ≡ states b * 72
+pub length-pieces : (b : List ℕ) → Accepted b → length (pieces b) ≡ states b * 136
 unfolding pieces
-length-pieces b a = length-each (states b) 72 (piece b) (length-piece b a)
+length-pieces b a =
+    length-each (states b) 136 (piece b) (λ s h.
+    ap length (piece-own b s) ∙ length-piece-by _ (states b) s (frame b a .few .most-states))

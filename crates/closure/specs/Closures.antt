@@ -1,25 +1,25 @@
--- The closures of a part as bytes, and what the call that writes them answers (request c).
+-- The closures of a part as bytes, and what the call that writes them answers (requests c and f).
 use Prim.Native.Nat.{ℕ}
 use mathlib.Core.List.{List, _++_}
 use mathlib.Core.Option.{Option, none, some}
 use lib.Dec.{ltb}
 use lib.ListN.{length}
-use Rattle.bounded.specs.Search.{or-else, when}
+use Rattle.bounded.specs.Search.{or-else, when, each}
 use Rattle.words.specs.Arrays.{padded}
 use Rattle.words.specs.Laid.{over}
-use Rattle.words.specs.LittleEndian.{digits, each}
+use Rattle.words.specs.LittleEndian.{digits}
 use Rattle.words.specs.Sets.{mask}
 use Rattle.part.specs.Record.{states}
 use Rattle.part.specs.Rejections.{rejection}
-use Rattle.relations.specs.Relations.{reach, visits}
+use Rattle.relations.specs.Relations.{reach, visits, distances}
 
--- A set and visits as bytes: the set in 8, then the visits and zeros behind them in 64.
-unfoldable pub piece-bytes : ℕ → List ℕ → List ℕ
-piece-bytes set visits = digits 8 set ++ padded 64 visits
+-- A set, visits and distances as bytes: the set in 8, then each of the lists and zeros behind it in 64.
+unfoldable pub piece-bytes : ℕ → List ℕ → List ℕ → List ℕ
+piece-bytes set visits distances = digits 8 set ++ padded 64 visits ++ padded 64 distances
 
--- The piece of s: its silent closure as a set, and its visits.
+-- The piece of s: its silent closure as a set, its visits, and their distances.
 unfoldable pub piece : List ℕ → ℕ → List ℕ
-piece b s = piece-bytes (mask (states b) (reach b s)) (visits b s)
+piece b s = piece-bytes (mask (states b) (reach b s)) (visits b s) (distances b s)
 
 -- The pieces of all states, in their order.
 unfoldable pub pieces : List ℕ → List ℕ

@@ -1,4 +1,4 @@
-// The call: the closures of a record's states (request c).
+// The call: the closures of a record's states (requests c and f).
 ghost use mathlib.Core.Path.{_≡_};
 ghost use lib.ListN.{length};
 ghost use Rattle.closure.specs.Closures.{pieces, refusal, buffer-after};
@@ -10,7 +10,7 @@ use part::Part;
 use part::Screening;
 use part::screen;
 
-// For each state of the record its silent closure as a set and its visits, at the start of out, whose later bytes stay; or why not, and then
+// For each state of the record its silent closure as a set, its visits and their distances, at the start of out, whose later bytes stay; or why not, and then
 // out stays as it was.
 pub fn list_closures(bytes: &[u8], out: &mut [u8]) -> Listing
     ensures { λ r. ⌜ refusal-of r ≡ refusal (now (bytes .entry)) (length (now (out .entry))) ⌝ }

@@ -2,12 +2,11 @@
 ghost use mathlib.Core.Path.{_≡_};
 ghost use Prim.Native.Nat.{_+_, _<_, _≤_};
 ghost use lib.ListN.{length};
-ghost use Rattle.bounded.specs.Paths.{visits-by};
 ghost use Rattle.words.specs.Laid.{over};
 ghost use Rattle.part.specs.Rejections.{Accepted};
 ghost use Rattle.relations.specs.Sets.{in-rows};
 ghost use Rattle.closure.specs.Closures.{pieces};
-ghost use Rattle.closure.specs.Pieces.{visits-bytes};
+ghost use Rattle.closure.specs.Pieces.{piece-by};
 use part::Part;
 use relations::event;
 use relations::event::RULE_4;
@@ -17,17 +16,18 @@ use words::copy::lay;
 use words::le;
 
 // How many bytes are written for a state.
-pub const PIECE: usize = 72;
+pub const PIECE: usize = 136;
 
 // The piece of s, from place at on, where a step leads from each state to those in its row.
 fn put_piece(out: &mut [u8], at: usize, rows: &[u64; 64], s: usize)
     requires { ⌜ s < 64 ⌝ }
-    requires { ⌜ at + 72 ≤ length (now out) ⌝ }
-    ensures { λ _. ⌜ now (out .exit) ≡ over (now (out .entry)) at (visits-bytes (visits-by (in-rows (now (rows .entry))) 64 s)) ⌝ }
+    requires { ⌜ at + 136 ≤ length (now out) ⌝ }
+    ensures { λ _. ⌜ now (out .exit) ≡ over (now (out .entry)) at (piece-by (in-rows (now (rows .entry))) 64 s) ⌝ }
 {
     let closure = closure_of(rows, s);
     le::put64(out, at, closure.set);
     lay(&closure.visits, out, at + 8);
+    lay(&closure.distances, out, at + 72);
 }
 
 // The pieces of all states, from the start of out on.

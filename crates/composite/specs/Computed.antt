@@ -3,10 +3,10 @@ use Prim.Native.Nat.{ℕ}
 use mathlib.Core.Bool.{Bool, true, false, _&&_}
 use mathlib.Core.List.{List, [], _∷_}
 use lib.Dec.{eqb}
-use Rattle.bounded.specs.Search.{first, or-else, when}
+use Rattle.bounded.specs.Search.{first, or-else, when, each}
 use Rattle.words.specs.Sets.{bit, single, mask}
 use Rattle.words.specs.Pairs.{pair, product}
-use Rattle.words.specs.LittleEndian.{number, digits, each}
+use Rattle.words.specs.LittleEndian.{number, digits}
 use Rattle.part.specs.Record.{observer, states, start, events, column, classes-below, entry-at, identifier, event-kind, level, row-at, row}
 use Rattle.part.specs.Layout.{body, layout}
 use Rattle.part.specs.Events.{kind-of, at-place, place, event-of}

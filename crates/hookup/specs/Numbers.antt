@@ -1,4 +1,4 @@
--- The one number that a call from C answers with (document 01, "The shelf"; request c).
+-- The one number that a call from C answers with (document 01, "The shelf"; requests c and f).
 use Prim.Native.Nat.{ℕ, _+_}
 use mathlib.Core.Option.{Option, none, some}
 use Rattle.restrictive.specs.Verdict.{Verdict, pass, refused, breaks}

@@ -5,6 +5,8 @@ ghost use lib.ListN.{length};
 ghost use Rattle.restrictive.specs.Verdict.{Violation, breaks, verdict};
 ghost use Rattle.restrictive.specs.Answers.{verdict-of};
 ghost use Rattle.closure.specs.Closures as closures;
+ghost use Rattle.explain.specs.Explanation as explanations;
+ghost use Rattle.explain.specs.Explanation.{explanation, explained};
 ghost use Rattle.composite.specs.Joined.{joined};
 ghost use Rattle.composite.specs.Joining.{joining, buffer-after};
 ghost use Rattle.composite.specs.Answers.{side-of, obstacle-of};
@@ -14,6 +16,8 @@ use closure::call::list_closures;
 use composite::answer::Joining;
 use composite::answer::Obstacle;
 use composite::answer::Side;
+use explain::answer::Explaining;
+use explain::call::explain;
 use join::call::join;
 use restrictive::Verdict;
 use restrictive::call::check;
@@ -56,7 +60,9 @@ fn obstacle_number(o: Obstacle) -> u32
 pub extern "C" fn hookup_check(bytes: &[u8]) -> u32
     ensures { λ k. ⌜ k ≡ check-number (verdict (now (bytes .entry))) ⌝ }
 {
-    check_number(check(bytes))
+    let report = check(bytes);
+    let verdict = report.verdict;
+    check_number(verdict)
 }
 
 // 0 for a joined record, the refusal's number, or 100 plus the rule for a break; 1,000 more where B's own record is refused or breaks.
@@ -85,5 +91,18 @@ pub extern "C" fn hookup_closure(bytes: &[u8], out: &mut [u8]) -> u32
         Listing::Written => 0,
         Listing::Refused(r) => r.number(),
         Listing::NoRoom => 15,
+    }
+}
+
+// What hookup_check answers, with the verdict in numbers at the start of out; 15 where these have no room.
+#[no_mangle]
+pub extern "C" fn hookup_explain(bytes: &[u8], out: &mut [u8]) -> u32
+    ensures { λ k. ⌜ k ≡ check-number (explained (verdict (now (bytes .entry))) (length (now (out .entry)))) ⌝ }
+    ensures { λ k. ⌜ now (out .exit) ≡ explanations.buffer-after (explained (verdict (now (bytes .entry))) (length (now (out .entry)))) (explanation (now (bytes .entry))) (now (out .entry)) ⌝ }
+{
+    let answer = explain(bytes, out);
+    match answer {
+        Explaining::Told(v) => check_number(v),
+        Explaining::NoRoom => 15,
     }
 }

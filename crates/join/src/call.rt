@@ -19,13 +19,15 @@ pub fn join<'a>(a: &'a [u8], b: &'a [u8], out: &mut [u8]) -> Joining
     ensures { λ r. ⌜ joining-of r ≡ joining (now (a .entry)) (now (b .entry)) (length (now (out .entry))) ⌝ }
     ensures { λ r. ⌜ now (out .exit) ≡ buffer-after (joining-of r) (joined (now (a .entry)) (now (b .entry))) (now (out .entry)) ⌝ }
 {
-    let first = check(a);
+    let report_a = check(a);
+    let first = report_a.verdict;
     match first {
         Verdict::Refused(r) => return Joining::Unfit(Side::First, Verdict::Refused(r)),
         Verdict::Break(v) => return Joining::Unfit(Side::First, Verdict::Break(v)),
         Verdict::Pass => {}
     }
-    let second = check(b);
+    let report_b = check(b);
+    let second = report_b.verdict;
     match second {
         Verdict::Refused(r) => return Joining::Unfit(Side::Second, Verdict::Refused(r)),
         Verdict::Break(v) => return Joining::Unfit(Side::Second, Verdict::Break(v)),

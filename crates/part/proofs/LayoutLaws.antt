@@ -7,8 +7,10 @@ use native.Mathlib.Omega.{arith}
 use lib.ListN.{length, take, drop}
 use lib.Seq.{take-all}
 use borrow.Author.Tests.{eqb-true, not-false}
-use Rattle.words.specs.LittleEndian.{Bytes, byte, number, digits, each}
-use Rattle.words.proofs.LittleEndian.{digits-number, part-join, each-same, each-parts, bytes-part}
+use Rattle.bounded.proofs.Lists.{each-same}
+use Rattle.bounded.specs.Search.{each}
+use Rattle.words.specs.LittleEndian.{Bytes, byte, number, digits}
+use Rattle.words.proofs.LittleEndian.{digits-number, part-join, each-parts, bytes-part}
 use Rattle.part.specs.Format.{part-kind, columns-at, entries-at, rows-at, body-size}
 use Rattle.part.specs.Record.{body-length, kind, observer, states, start, events, counts, class, entry-at}
 use Rattle.part.specs.Record.{identifier, event-kind, level, row-at, row}

@@ -4,7 +4,8 @@ use mathlib.Core.Path.{_≡_, refl, sym, _∙_}
 use mathlib.Core.List.{List, [], _∷_, _++_, append-nil}
 use native.Mathlib.Omega.{arith}
 use lib.ListN.{length, length-append}
-use Rattle.words.specs.LittleEndian.{Bytes, number, digits, each}
+use Rattle.bounded.specs.Search.{each}
+use Rattle.words.specs.LittleEndian.{Bytes, number, digits}
 use Rattle.words.proofs.LittleEndian.{length-digits, length-each, number-digits, done, _then_, bytes-of, bytes-append}
 use Rattle.words.proofs.LittleEndian.{bytes-digits, bytes-each, Stands, stands-front, stands-back, stands-to}
 use Rattle.words.proofs.LittleEndian.{stands-each, stands-byte, stands-number}

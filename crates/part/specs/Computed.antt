@@ -2,9 +2,9 @@
 use Prim.Native.Nat.{ℕ}
 use mathlib.Core.List.{List}
 use mathlib.Core.Option.{none, some}
-use Rattle.bounded.specs.Search.{any}
+use Rattle.bounded.specs.Search.{any, each}
 use Rattle.words.specs.Sets.{exceeds}
-use Rattle.words.specs.LittleEndian.{number, digits, each}
+use Rattle.words.specs.LittleEndian.{number, digits}
 use Rattle.part.specs.Record.{body-length, kind, states, start, events, column, classes-below, entry-at, identifier, event-kind, level, row-at, row}
 use Rattle.part.specs.Rejections.{too-short, wrong-length, wrong-kind, out-of-range, wrong-size, skips-at, unnumbered, misnumbered, falls-at, falling, unknown-at, unknown-kind, misordered, strays-at, row-strays, stray-bit, first-of, rejection}
 use Rattle.part.specs.Layout.{body, layout}

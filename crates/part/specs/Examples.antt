@@ -4,15 +4,12 @@ use Prim.Native.Nat.{ℕ}
 use mathlib.Core.Path.{_≡_, refl}
 use mathlib.Core.Bool.{Bool, true, _&&_}
 use mathlib.Core.List.{List, [], _∷_, _++_}
-use mathlib.Core.Option.{some}
 use lib.Dec.{T, eqb}
 use lib.ListN.{take, set}
 use Rattle.bounded.specs.Search.{first, or-else}
 use Rattle.machine.specs.Machine.{input, output, Event, absent, event}
-use Rattle.words.specs.LittleEndian.{number, digits, each}
-use Rattle.part.specs.Record.{kind, states, start, events, entry-at, identifier, event-kind, level}
-use Rattle.part.specs.Rejections.{falling}
-use Rattle.part.specs.Layout.{body}
+use Rattle.words.specs.LittleEndian.{number, digits}
+use Rattle.part.specs.Record.{states, events, entry-at, identifier, event-kind, level}
 use Rattle.part.specs.Events.{kind-of, at-place, place, event-of}
 use Rattle.part.specs.Samples.{P, Z, resetting}
 use Rattle.part.specs.Computed.{rejected-with}

@@ -1,7 +1,8 @@
 -- The bytes of a part's record from its fields, in the order of document 01, "The part record".
 use Prim.Native.Nat.{ℕ}
 use mathlib.Core.List.{List, [], _∷_, _++_}
-use Rattle.words.specs.LittleEndian.{digits, each}
+use Rattle.bounded.specs.Search.{each}
+use Rattle.words.specs.LittleEndian.{digits}
 use Rattle.part.specs.declared.format.Counts.{Counts}
 use Rattle.part.specs.Format.{part-kind, body-size}
 use Rattle.part.specs.Record.{Observer}

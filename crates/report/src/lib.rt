@@ -59,9 +59,11 @@ fn judge(input: &[u8]) -> Verdict
     ensures { λ r. ⌜ verdict-of r ≡ verdict (take judged-bytes (now (input .entry))) ⌝ }
 {
     if JUDGED < input.len() {
-        return check(&input[..JUDGED]);
+        let report = check(&input[..JUDGED]);
+        return report.verdict;
     }
-    check(input)
+    let report = check(input);
+    report.verdict
 }
 
 // Writes the line of an input to the start of out, and answers its length. The rest of out stays.

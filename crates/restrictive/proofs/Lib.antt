@@ -1,4 +1,5 @@
 pub mod Scans
+pub mod Taken
 pub mod Offers
 pub mod OfferArrays
 pub mod Sameness

@@ -116,13 +116,13 @@ module _ (b : List ℕ) (o : Observer) (framed : Framed b) (within : RowsWithin 
 
   -- rule 5 without silent events: nothing but the event
   module _ (silent : ℕ) (of : Concerned b (o .level) 3 silent) (empty : silent ≡ 0) where
-    alone : (s t : ℕ) → reach-for b (o .level) s t ≡ eqb s t
+    alone : (s t : ℕ) → s < states b → reach-for b (o .level) s t ≡ eqb s t
     alone = reach-alone b (o .level) silent of empty
 
     reached-own : (q c : ℕ) → q < states b → reached b o q c ≡ eqb (o .class q) c
     unfolding reached
     reached-own q c h =
-        any-same _ _ _ (λ v l. ap (λ (p : Bool). p && eqb (o .class v) c) (alone q v)) ∙ any-self _ q _ h
+        any-same _ _ _ (λ v l. ap (λ (p : Bool). p && eqb (o .class v) c) (alone q v h)) ∙ any-self _ q _ h
 
     pub direct-alone : (own : List ℕ) → ClassOf (states b) (o .class) own → OfferedDirectly b o 4 own
     unfolding offer rule-at
@@ -131,7 +131,7 @@ module _ (b : List ℕ) (o : Observer) (framed : Framed b) (within : RowsWithin 
         ∙ sym (any-same _ _ _ (λ q l. ap (λ (r : Bool). leads b i s q && r) (reached-own q c l)))
         ∙ sym (any-self _ s _ h)
         ∙ sym (any-same _ _ _
-        (λ v l. ap (λ (r : Bool). r && any (states b) (λ q. leads b i v q && reached b o q c)) (alone s v)))
+        (λ v l. ap (λ (r : Bool). r && any (states b) (λ q. leads b i v q && reached b o q c)) (alone s v h)))
         ∙ around-classes b o i s c
 
 -- rule 4: the classes of the closure, whatever the event is

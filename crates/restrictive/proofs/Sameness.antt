@@ -34,9 +34,9 @@ module _ (b : List ℕ) (o : Observer) (i s t : ℕ) (hs : s < states b) (ht : t
   around-step : leads b i s t ≡ true → around b (o .level) i s t ≡ true
   unfolding around
   around-step e =
-      let last = any-at _ _ t ht (and-now _ _ e ∙ reach-self b _ t) in
+      let last = any-at _ _ t ht (and-now _ _ e ∙ reach-self b _ t ht) in
       any-at _ _ s hs
-      (and-now _ _ (reach-self b _ s) ∙ last)
+      (and-now _ _ (reach-self b _ s hs) ∙ last)
 
   silent-there : i < events b → is-silent (role-at b (o .level) i) ≡ true → leads b i s t ≡ true
       → silent-step b (o .level) s t ≡ true
@@ -50,7 +50,7 @@ module _ (b : List ℕ) (o : Observer) (i s t : ℕ) (hs : s < states b) (ht : t
   own-offer (suc zero) h l p a = absurd (omega arith)
   own-offer (suc (suc zero)) h l p a = at-class (leads b i s) (a .1)
   own-offer (suc (suc (suc zero))) h l p a =
-      at-class (reach-for b (o .level) s) (reach-step b _ s t (silent-there p (a .0) (a .1)))
+      at-class (reach-for b (o .level) s) (reach-step b _ s t hs ht (silent-there p (a .0) (a .1)))
   own-offer (suc (suc (suc (suc zero)))) h l p a = at-class (around b (o .level) i s) (around-step (a .1))
   own-offer (suc (suc (suc (suc (suc k))))) h l p a = absurd (omega arith)
 

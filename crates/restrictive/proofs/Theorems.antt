@@ -1,24 +1,30 @@
 -- The verdict of a record is what its machine is: the statements of specs/Theorems.antt.
-use Prim.Native.Nat.{ℕ, zero, suc, _≤_, _<_}
+use Prim.Native.Nat.{ℕ, zero, suc, _*_, _≤_, _<_}
 use mathlib.Core.Path.{_≡_, refl, sym, ap, _∙_, subst}
+use mathlib.Core.Bool.{Bool, cond}
 use mathlib.Core.List.{List, [], _∷_}
 use mathlib.Core.Option.{Option, none, some}
 use mathlib.Core.Logic.{_↔_, _⊎_, inl, inr, ⊎-elim}
+use native.Mathlib.Decide.{ℕ-discrete}
 use native.Mathlib.Omega.{arith}
-use Rattle.bounded.proofs.Search.{true-or-false}
+use borrow.Author.Tests.{le-leb, leb-true}
+use lib.Dec.{leb}
+use Rattle.bounded.proofs.Search.{true-or-false, count-le, count-some, total-same, total-within}
+use Rattle.bounded.proofs.Paths.{length-visits}
 use Rattle.machine.specs.Rules.{Rule, rule-1, rule-2, rule-3, rule-4, rule-5, Restrictive}
 use Rattle.machine.proofs.Noninterference.{restrictive-hides}
-use Rattle.part.specs.Record.{observer-of}
+use Rattle.part.specs.Record.{observer, states, observer-of}
 use Rattle.part.specs.Rejections.{Condition, first-of, rejection, Accepted}
 use Rattle.part.specs.Machine.{machine, observation}
 use Rattle.part.proofs.Accepted.{skip, hit, rejection-none}
 use Rattle.part.proofs.Places.{places}
 use Rattle.part.proofs.Ranges.{ranges}
 use Rattle.restrictive.specs.Tests.{answers}
-use Rattle.relations.specs.Relations.{rule-at}
+use Rattle.relations.specs.Relations.{rule-at, silent-step, reach-for, reach, visits-for, visits, closure-sizes}
+use Rattle.relations.proofs.SilentReach.{reach-self}
 use Rattle.restrictive.specs.Verdict.{Violation, pass, refused, first-violation, by-rules, after-rejection}
-use Rattle.restrictive.specs.Verdict.{breaks, verdict}
-use lib.ListN.{getD}
+use Rattle.restrictive.specs.Verdict.{Verdict, breaks, verdict, taken-by, taken}
+use lib.ListN.{length, getD}
 use Rattle.restrictive.specs.Theorems.{
   PassesExactly,
   FirstHolding,
@@ -30,8 +36,13 @@ use Rattle.restrictive.specs.Theorems.{
   Names,
   BreaksExactly,
   PassingHides,
+  TakesUp,
+  passing,
+  breaking,
+  TakenExactly,
+  TakenRange,
 }
-use Rattle.bounded.specs.Search.{Below}
+use Rattle.bounded.specs.Search.{Below, count, total}
 use Rattle.bounded.proofs.Truth.{not-not}
 use Rattle.restrictive.proofs.Reflect.{answers-iff, broken-iff, asked-placed}
 use Rattle.restrictive.proofs.First.{Finds, finds-as, IsViolation, finds-violation}
@@ -206,3 +217,64 @@ break-rule b v e =
     let w = breaks-exactly b v .0 e .1 in
     let q : v .rule ≡ rule-number (w .the-rule) = ap (λ (l : List ℕ). getD l 0 0) (w .as-named) in
     omega (arith, rule-most (w .the-rule))
+
+-- ---- the states that are taken up
+
+-- The closures of the states of a record, together: as many as their visits, at least n, and at most n times n.
+module _ (b : List ℕ) where
+  sizes-visits : closure-sizes b (observer b) ≡ total (states b) (λ s. length (visits b s))
+  unfolding closure-sizes visits-for reach-for
+  sizes-visits =
+      total-same (states b) _ _ (λ s h. sym (length-visits (silent-step b (observer b)) (states b) s))
+
+  sizes-within : (states b ≤ closure-sizes b (observer b)) × (closure-sizes b (observer b) ≤ states b * states b)
+  unfolding closure-sizes
+  sizes-within =
+      let (least, most) = total-within (states b) 1 (states b) (λ s. count (states b) (reach b s)) (λ s h. (
+        count-some (states b) (reach b s) s h (reach-self b (observer b) s h),
+        count-le (states b) (reach b s),
+      )) in
+      (omega arith, most)
+
+  takes-all : TakesUp b → taken b ≡ closure-sizes b (observer b)
+  unfolding taken taken-by
+  takes-all (passing e) = ap (λ (v : Verdict). taken-by v (closure-sizes b (observer b))) e
+  takes-all (breaking v e late) =
+      ap (λ (v : Verdict). taken-by v (closure-sizes b (observer b))) e
+      ∙ ap (λ (p : Bool). cond p (closure-sizes b (observer b)) 0)
+      (le-leb 4 (v .rule) (⊎-elim (λ q. omega arith) (λ q. omega arith) late))
+
+  -- It takes them up, or nothing.
+  takes-or-not : TakesUp b ⊎ (taken b ≡ 0)
+  unfolding taken taken-by
+  takes-or-not = go (verdict b) refl
+    where
+      go : (v : Verdict) → verdict b ≡ v → TakesUp b ⊎ (taken-by (verdict b) (closure-sizes b (observer b)) ≡ 0)
+      go pass e = inl (passing e)
+      go (refused k) e = inr (rw e)
+      go (breaks v) e =
+          ⊎-elim
+          (λ late.
+          let h = leb-true 4 (v .rule) late in
+          let l = break-rule b v e in
+          inl (breaking v e (elim (ℕ-discrete (v .rule) 4) [ yes q ↦ inl q | no q ↦ inr (omega arith) ])))
+          (λ early. inr (rw e (ap (λ (p : Bool). cond p (closure-sizes b (observer b)) 0) early)))
+          (true-or-false (leb 4 (v .rule)))
+
+  -- Then there is a state.
+  taking-accepted : TakesUp b → 1 ≤ states b
+  taking-accepted (passing e) = ranges b (passes-exactly b .0 e .0) .one-state
+  taking-accepted (breaking v e late) = ranges b (breaks-exactly b v .0 e .0) .one-state
+
+pub taken-exactly : TakenExactly
+taken-exactly b = record {
+  all-closures = λ t. takes-all b t ∙ sizes-visits b;
+  no-closures = (
+    λ e t. omega (arith, takes-all b t, sizes-within b .0, taking-accepted b t),
+    λ none. ⊎-elim (λ t. absurd (none t)) (λ e. e) (takes-or-not b),
+  );
+}
+
+pub taken-range : TakenRange
+taken-range b =
+    ⊎-elim (λ t. inr (rw (takes-all b t) (sizes-within b))) inl (takes-or-not b)

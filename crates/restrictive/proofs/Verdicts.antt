@@ -1,17 +1,24 @@
 -- The verdict by its parts: from the rejection and from the first violation; and what an accepted record gives to the
 -- rules.
 use Prim.Native.Nat.{ℕ}
-use mathlib.Core.Path.{_≡_, ap, _∙_}
+use mathlib.Core.Path.{_≡_, refl, sym, ap, _∙_}
 use mathlib.Core.List.{List}
 use mathlib.Core.Option.{Option, none, some}
 use native.Mathlib.Omega.{arith}
-use Rattle.part.specs.Record.{column, observer-of}
+use Rattle.part.specs.Record.{observer, column, observer-of}
 use Rattle.part.specs.Rejections.{rejection}
 use Rattle.part.proofs.Accepted.{rejection-none}
 use Rattle.part.proofs.Ranges.{ranges, frame, column-length}
+use Rattle.relations.specs.Relations.{closure-sizes}
 use Rattle.relations.specs.Sets.{Sound}
 use Rattle.relations.proofs.Theorems.{rows-within}
+use Rattle.restrictive.specs.declared.answer.Verdict.{Verdict}
+use Rattle.restrictive.specs.declared.answer.Finding.{Finding}
+use Rattle.restrictive.specs.Verdict as plain
 use Rattle.restrictive.specs.Verdict.{Violation, refused, by-rules, after-rejection, first-violation, verdict}
+use Rattle.restrictive.specs.Verdict.{taken-by, taken}
+use Rattle.restrictive.specs.Answers.{verdict-of, Reports}
+use Rattle.restrictive.specs.Found.{found-of, FindingOf}
 
 pub refused-verdict : (b : List ℕ) (k : ℕ) → rejection b ≡ some k → verdict b ≡ refused k
 unfolding verdict after-rejection
@@ -21,6 +28,27 @@ pub rules-verdict : (b : List ℕ) (o : Option Violation) → rejection b ≡ no
     → verdict b ≡ by-rules o
 unfolding verdict after-rejection
 rules-verdict b o e f = ap (λ (r : Option ℕ). after-rejection r b) e ∙ ap by-rules f
+
+-- What Check reports then.
+pub reports-refused : (b : List ℕ) (k : ℕ) {v : Verdict} → rejection b ≡ some k → verdict-of v ≡ refused k
+    → Reports b (record { verdict = v; taken = 0 })
+unfolding taken taken-by
+reports-refused b k e f =
+    let whole = refused-verdict b k e in
+    record {
+      verdict = f ∙ sym whole;
+      taken = sym (ap (λ (w : plain.Verdict). taken-by w (closure-sizes b (observer b))) whole);
+    }
+
+pub reports-rules : (b : List ℕ) {v : Verdict} (f : Finding) → rejection b ≡ none → FindingOf b (observer-of b) f
+    → verdict-of v ≡ by-rules (found-of (f .found)) → Reports b (record { verdict = v; taken = f .taken })
+unfolding taken
+reports-rules b f e finds g =
+    let whole = rules-verdict b _ e refl in
+    record {
+      verdict = g ∙ ap by-rules (finds .found) ∙ sym whole;
+      taken = finds .taken ∙ ap (λ (w : plain.Verdict). taken-by w (closure-sizes b (observer b))) (sym whole);
+    }
 
 -- What the rules need of an accepted record.
 pub ready : (b : List ℕ) → rejection b ≡ none → Sound b (column b)

@@ -1,8 +1,12 @@
 -- What the answers of the code mean: document 01's numbers and values for each case.
+use Prim.Native.Nat.{ℕ}
+use mathlib.Core.Path.{_≡_}
+use mathlib.Core.List.{List}
 use Rattle.part.specs.Answers.{number-of}
 use Rattle.restrictive.specs.declared.answer.Violation.{Violation}
 use Rattle.restrictive.specs.declared.answer.Verdict.{Verdict}
 use Rattle.restrictive.specs.declared.answer.Verdict.the-variants.{Pass, Refused, Break}
+use Rattle.restrictive.specs.declared.answer.Report.{Report}
 use Rattle.restrictive.specs.Verdict as plain
 
 -- A violation as it is named: rule, identifier, s, t, u.
@@ -14,3 +18,8 @@ unfoldable pub verdict-of : Verdict → plain.Verdict
 verdict-of Pass = plain.pass
 verdict-of (Refused r) = plain.refused (number-of r)
 verdict-of (Break v) = plain.breaks (violation-of v)
+
+-- What Check reports of a record.
+pub record Reports (b : List ℕ) (r : Report) : Type 0 where
+  pub verdict : verdict-of (r .verdict) ≡ plain.verdict b
+  pub taken : r .taken ≡ plain.taken b

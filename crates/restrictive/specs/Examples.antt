@@ -1,12 +1,12 @@
--- Records that tell the rules from their wrong readings (document 01, "Wrong readings").
+-- Records that tell the rules and the count from their wrong readings (document 01, "Wrong readings"; document 02, f).
 use Prim.Native.Nat.{ℕ, _+_, _*_}
 use mathlib.Core.Bool.{Bool, _&&_}
 use mathlib.Core.List.{List, [], _∷_, _++_}
-use lib.Dec.{T}
+use lib.Dec.{T, eqb}
 use lib.ListN.{length}
 use Rattle.words.specs.LittleEndian.{digits}
-use Rattle.restrictive.specs.Verdict.{pass}
-use Rattle.restrictive.specs.Judged.{judged, same, broken-at}
+use Rattle.restrictive.specs.Verdict.{Verdict, pass, refused}
+use Rattle.restrictive.specs.Judged.{judged, counted, same, broken-at}
 
 -- An entry, and a record for observer 0 with start 0 from classes, entries and rows.
 abbrev entry : ℕ → ℕ → ℕ → List ℕ
@@ -45,9 +45,9 @@ not-reached = sample (0 ∷ 1 ∷ []) 1 (entry 1 0 0) (1 ∷ 0 ∷ [])
 abbrev rule-before-event : List ℕ
 rule-before-event = sample (0 ∷ 1 ∷ []) 2 (entry 1 0 0x40 ++ entry 2 0 0) (2 ∷ 2 ∷ 1 ∷ 0 ∷ [])
 
-all-so : Bool
+rules-so : Bool
 unfolding judged sample
-all-so =
+rules-so =
     same (judged silent-before) pass
     && same (judged silent-after) pass
     && same (judged high-input-before) (broken-at 5 1 0 0 1)
@@ -55,6 +55,52 @@ all-so =
     && same (judged not-reached) (broken-at 1 1 1 0 0)
     && same (judged rule-before-event) (broken-at 1 2 1 0 0)
 
-readings : T all-so
-unfolding all-so
+readings : T rules-so
+unfolding rules-so
 readings = tt
+
+-- ---- how many states are taken up (document 02, f)
+
+-- The verdict and the count.
+reported : List ℕ → Verdict → ℕ → Bool
+unfolding judged counted sample
+reported b v k = same (judged b) v && eqb (counted b) k
+
+-- Event 1 is of the kind, at the level and with the rows given; event 2 is silent.
+abbrev with-silent : List ℕ → ℕ → ℕ → List ℕ → List ℕ
+with-silent classes kind level rows = sample classes 2 (entry 1 kind level ++ entry 2 1 0x40) rows
+
+-- At a pass: closures of one state and of two. Reached classes would be 2, and without the state itself it would be 1.
+abbrev passes-together : Bool
+passes-together = reported silent-before pass 3
+
+-- No two states share a class, so that rules 3 to 5 ask nothing; no silent event; no event.
+abbrev passes-apart : Bool
+passes-apart = reported (sample (0 ∷ 1 ∷ []) 1 (entry 1 1 0x40) (2 ∷ 2 ∷ [])) pass 3
+
+abbrev passes-unmoved : Bool
+passes-unmoved = reported one-is-enough pass 3 && reported (sample (0 ∷ 0 ∷ []) 0 [] []) pass 2
+
+-- At a break of rule 5: low output 1 stays in 0, and from 1, of the same class, silent steps lead to 2 alone. Of rule 4: 0 leads to 2, of
+-- another class, and 1 does not.
+abbrev at-rule-5 : Bool
+at-rule-5 = reported (with-silent (0 ∷ 0 ∷ 0 ∷ []) 1 0 (1 ∷ 0 ∷ 0 ∷ 0 ∷ 4 ∷ 0 ∷ [])) (broken-at 5 1 0 0 1) 4
+
+abbrev at-rule-4 : Bool
+at-rule-4 = reported (sample (0 ∷ 0 ∷ 1 ∷ []) 1 (entry 1 1 0x40) (4 ∷ 0 ∷ 0 ∷ [])) (broken-at 4 1 0 2 1) 4
+
+-- At a break of rules 3, 2 and 1 it is 0, whatever silent steps there are, and at a refusal.
+abbrev before-rule-4 : Bool
+before-rule-4 =
+    reported (with-silent (0 ∷ 0 ∷ 1 ∷ []) 0 0 (4 ∷ 2 ∷ 4 ∷ 1 ∷ 1 ∷ 1 ∷ [])) (broken-at 3 1 0 2 1) 0
+    && reported (with-silent (0 ∷ 1 ∷ []) 0 0x40 (2 ∷ 2 ∷ 2 ∷ 2 ∷ [])) (broken-at 2 1 0 1 0) 0
+    && reported (with-silent (0 ∷ 1 ∷ []) 0 0 (1 ∷ 0 ∷ 2 ∷ 2 ∷ [])) (broken-at 1 1 1 0 0) 0
+    && reported (sample (0 ∷ 0 ∷ []) 1 (entry 1 1 0x40) (4 ∷ 0 ∷ [])) (refused 8) 0
+
+counts-so : Bool
+unfolding reported
+counts-so = passes-together && passes-apart && passes-unmoved && at-rule-5 && at-rule-4 && before-rule-4
+
+counts : T counts-so
+unfolding counts-so
+counts = tt

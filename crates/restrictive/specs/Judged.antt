@@ -1,24 +1,29 @@
--- The verdict as it computes, and a test of two verdicts, for tables of examples.
+-- The verdict and the count as they compute, and a test of two verdicts, for tables of examples.
 use Prim.Native.Nat.{ℕ}
 use mathlib.Core.Bool.{Bool, true, false, _&&_}
 use mathlib.Core.List.{List}
 use lib.Dec.{eqb}
-use Rattle.bounded.specs.Search.{all, first, or-else, when}
-use Rattle.bounded.specs.Paths.{via}
+use Rattle.bounded.specs.Search.{all, first, or-else, when, count, total}
+use Rattle.bounded.specs.Paths.{in-steps, reaches}
 use Rattle.machine.specs.Roles.{at-level, role-of}
 use Rattle.words.specs.Sets.{bit}
 use Rattle.level.specs.Level.{rank, at-or-below, low}
 use Rattle.part.specs.Record.{observer}
 use Rattle.part.specs.Computed.{rejected-with}
 use Rattle.part.specs.Events.{kind-of}
-use Rattle.relations.specs.Relations.{role-at, leads, same-class, step-by, silent-step, reach-for, rule-at}
+use Rattle.relations.specs.Relations.{role-at, leads, same-class, step-by, silent-step, reach-for, closure-sizes, rule-at}
 use Rattle.restrictive.specs.Tests.{around, asks, answers, broken}
-use Rattle.restrictive.specs.Verdict.{Violation, Verdict, pass, refused, breaks, violation-at, state-violation, event-violation, rule-violation, first-violation, by-rules, after-rejection, verdict}
+use Rattle.restrictive.specs.Verdict.{Violation, Verdict, pass, refused, breaks, violation-at, state-violation, event-violation, rule-violation, first-violation, by-rules, after-rejection, verdict, taken-by, taken}
 
 -- The verdict, computed.
 unfoldable pub judged : List ℕ → Verdict
-unfolding rejected-with verdict after-rejection by-rules first-violation rule-violation event-violation state-violation violation-at when rule-at broken answers asks around reach-for via silent-step step-by same-class leads role-at role-of at-level kind-of observer all first or-else bit low at-or-below rank
+unfolding rejected-with verdict after-rejection by-rules first-violation rule-violation event-violation state-violation violation-at when rule-at broken answers asks around reach-for reaches in-steps silent-step step-by same-class leads role-at role-of at-level kind-of observer all first or-else bit low at-or-below rank
 judged b = verdict b
+
+-- The count, computed.
+unfoldable pub counted : List ℕ → ℕ
+unfolding judged taken taken-by closure-sizes total count
+counted b = taken b
 
 abbrev pub same-violation : Violation → Violation → Bool
 same-violation v w = eqb (v .rule) (w .rule) && eqb (v .event) (w .event) && eqb (v .s) (w .s) && eqb (v .t) (w .t) && eqb (v .u) (w .u)

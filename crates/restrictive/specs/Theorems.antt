@@ -1,14 +1,18 @@
--- What is proved of the verdict, as statements over all bytes. Their proofs stand in proofs/ under the names in lower case.
-use Prim.Native.Nat.{ℕ, _<_}
+-- What is proved of the verdict and the count, as statements over all bytes. Their proofs stand in proofs/ under the names in lower case.
+use Prim.Native.Nat.{ℕ, _*_, _≤_, _<_}
 use mathlib.Core.Path.{_≡_}
-use mathlib.Core.Logic.{_↔_}
+use mathlib.Core.Logic.{_↔_, _⊎_}
 use mathlib.Core.List.{List, [], _∷_}
 use mathlib.Core.Bool.{true, false}
+use lib.ListN.{length}
+use Rattle.bounded.specs.Search.{total}
 use Rattle.machine.specs.Rules.{Rule, rule-1, rule-2, rule-3, rule-4, rule-5, Restrictive, Broken}
 use Rattle.machine.specs.Noninterference.{Noninterfering}
+use Rattle.part.specs.Record.{states}
 use Rattle.part.specs.Rejections.{Condition, conditions, Accepted}
 use Rattle.part.specs.Machine.{State, machine, observation}
-use Rattle.restrictive.specs.Verdict.{Violation, pass, refused, breaks, verdict}
+use Rattle.relations.specs.Relations.{visits}
+use Rattle.restrictive.specs.Verdict.{Violation, pass, refused, breaks, verdict, taken}
 
 -- A record passes exactly if no rejection applies to it and its machine is restrictive with its own partition (demand 2).
 abbrev pub PassesExactly : Type 0
@@ -58,3 +62,21 @@ BreaksExactly =
 -- A passing part hides its high inputs: generalized noninterference (demand 3, last sentence).
 abbrev pub PassingHides : Type 0
 PassingHides = (b : List ℕ) (a : Accepted b) → verdict b ≡ pass → Noninterfering (machine b a) (observation b)
+
+-- Check takes up the silent closures: the record passes, or breaks rule 4 or 5.
+pub data TakesUp (b : List ℕ) : Type 0 where
+  passing : verdict b ≡ pass → TakesUp b
+  breaking : (v : Violation) → verdict b ≡ breaks v → (v .rule ≡ 4) ⊎ (v .rule ≡ 5) → TakesUp b
+
+-- The count is the number of the visits from all states, which are the states of their silent closures, exactly in those cases, and 0 in
+-- all others (request f).
+pub record Takes (b : List ℕ) : Type 0 where
+  pub all-closures : TakesUp b → taken b ≡ total (states b) (λ s. length (visits b s))
+  pub no-closures : (taken b ≡ 0) ↔ (TakesUp b → ⊥)
+
+abbrev pub TakenExactly : Type 0
+TakenExactly = (b : List ℕ) → Takes b
+
+-- Where it is not 0, it is at least n and at most n times n.
+abbrev pub TakenRange : Type 0
+TakenRange = (b : List ℕ) → (taken b ≡ 0) ⊎ ((states b ≤ taken b) × (taken b ≤ states b * states b))

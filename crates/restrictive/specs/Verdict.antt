@@ -1,12 +1,14 @@
 -- The verdict of Check on a record (document 01, "The five rules" and "Order"): the rejections, then the first violation by rule, event,
--- s, t, u, each ascending.
+-- s, t, u, each ascending. And how many states it takes up (document 02, f).
 use Prim.Native.Nat.{ℕ, suc}
+use mathlib.Core.Bool.{cond}
 use mathlib.Core.List.{List}
 use mathlib.Core.Option.{Option, none, some}
+use lib.Dec.{leb}
 use Rattle.bounded.specs.Search.{first, when}
-use Rattle.part.specs.Record.{states, events, identifier, Observer, observer-of}
+use Rattle.part.specs.Record.{observer, states, events, identifier, Observer, observer-of}
 use Rattle.part.specs.Rejections.{rejection}
-use Rattle.relations.specs.Relations.{rule-at}
+use Rattle.relations.specs.Relations.{rule-at, closure-sizes}
 use Rattle.restrictive.specs.Tests.{broken}
 
 -- A violation (document 01: a break): rule, identifier, s, t, u.
@@ -51,3 +53,13 @@ after-rejection (some k) b = refused k
 
 unfoldable pub verdict : List ℕ → Verdict
 verdict b = after-rejection (rejection b) b
+
+-- How many states Check takes up: the sizes of the silent closures of all states together where the record passes or breaks rule 4 or 5,
+-- and otherwise none.
+unfoldable pub taken-by : Verdict → ℕ → ℕ
+taken-by pass sizes = sizes
+taken-by (refused k) sizes = 0
+taken-by (breaks v) sizes = cond (leb 4 (v .rule)) sizes 0
+
+unfoldable pub taken : List ℕ → ℕ
+taken b = taken-by (verdict b) (closure-sizes b (observer b))

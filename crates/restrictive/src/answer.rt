@@ -16,10 +16,22 @@ pub enum Found {
     Nothing,
 }
 
+// What the rules give: the first violation, and how many states were taken up.
+pub struct Finding {
+    pub found: Found,
+    pub taken: usize,
+}
+
 pub enum Verdict {
     Pass,
     Refused(Rejection),
     Break(Violation),
+}
+
+// The answer of Check: the verdict, and how many states were taken up.
+pub struct Report {
+    pub verdict: Verdict,
+    pub taken: usize,
 }
 
 // One event under one rule, for an observer: the rule counted from 0, the event's place, the observer's level.

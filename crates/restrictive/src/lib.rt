@@ -4,5 +4,6 @@ pub mod call;
 mod naming;
 mod rules;
 
+pub use answer::Report;
 pub use answer::Verdict;
 pub use answer::Violation;

@@ -10,12 +10,13 @@ ghost use Rattle.part.specs.Record.{states, events, observing};
 ghost use Rattle.words.specs.Arrays.{Filled, sets-of};
 ghost use Rattle.words.specs.LittleEndian.{byte};
 ghost use Rattle.words.specs.Sets.{Rows};
-ghost use Rattle.relations.specs.Relations.{role-at, rule-at};
+ghost use Rattle.relations.specs.Relations.{role-at, rule-at, reach-for};
 ghost use Rattle.relations.specs.Sets.{Sound, concerns, Concerned, ClassOf};
 ghost use Rattle.restrictive.specs.Sets.{offer, Offers, Permitted, reached, observer-in, OfferedDirectly, OfferedSilently};
 ghost use Rattle.restrictive.specs.Verdict.{event-violation, rule-violation, first-violation};
-ghost use Rattle.restrictive.specs.Found.{found-of};
+ghost use Rattle.restrictive.specs.Found.{found-of, FindingOf};
 use crate::answer::Case;
+use crate::answer::Finding;
 use crate::answer::Found;
 use crate::naming;
 use part::Part;
@@ -26,6 +27,7 @@ use relations::event::RULE_2;
 use relations::event::RULE_3;
 use relations::event::RULE_4;
 use relations::event::RULE_5;
+use relations::silent::closure_sizes;
 use relations::silent::closures;
 use words::set;
 
@@ -207,40 +209,27 @@ fn rule_4(
     same_for_events(b, observer, column, RULE_4, silent, scratch, met)
 }
 
-// Rules 4 and 5. Without silent events rule 4 asks nothing, and rule 5 asks for the event alone.
-fn rules_from_4(
+// Rules 4 and 5, where there are silent events, with the closure of each state.
+fn with_closures(
     b: &[u8],
     observer: u8,
     column: &[u8],
     concerned: &[u64; 5],
+    closure: &[u64; 64],
     labels: &[u64; 64],
     scratch: &mut [u64; 64],
     offers: &mut [u64; 64],
 ) -> Found
     requires { ⌜ Sound (now b) (now column) ⌝ }
     requires { ⌜ ((k : ℕ) → k < 5 → Concerned (now b) observer k (getD (now concerned) k 0)) ⌝ }
+    requires { ⌜ Rows (states (now b)) (now closure) (reach-for (now b) observer) ⌝ }
     requires { ⌜ ClassOf (length (now column)) (byte (now column)) (now labels) ⌝ }
     requires { ⌜ first 3 (rule-violation (now b) (observing observer (now column))) ≡ none ⌝ }
     ensures { λ r. ⌜ found-of r ≡ first-violation (now (b .entry)) (observing observer (now (column .entry))) ⌝ }
 {
     let silent = concerned[RULE_4];
     let actions = concerned[RULE_5];
-    if silent == 0 {
-        return by_event(
-            b,
-            observer,
-            column,
-            RULE_5,
-            actions,
-            false,
-            labels,
-            labels,
-            scratch,
-            offers,
-        );
-    }
-    let closure = closures(b, silent);
-    let met = set::gather_each(column.len(), &closure, labels);
+    let met = set::gather_each(column.len(), closure, labels);
     let found = rule_4(b, observer, column, silent, &met, scratch);
     match found {
         Found::At(_) => return found,
@@ -253,19 +242,73 @@ fn rules_from_4(
         RULE_5,
         actions,
         true,
-        &closure,
+        closure,
         &met,
         scratch,
         offers,
     )
 }
 
-// Rules 3 to 5.
-fn rules_from_3(b: &[u8], observer: u8, column: &[u8], concerned: &[u64; 5]) -> Found
+// Rules 4 and 5, with the states that are taken up. Without silent events rule 4 asks nothing, rule 5 asks for the event alone, and each state
+// is alone in its closure.
+fn rules_from_4(
+    b: &[u8],
+    observer: u8,
+    column: &[u8],
+    concerned: &[u64; 5],
+    labels: &[u64; 64],
+    scratch: &mut [u64; 64],
+    offers: &mut [u64; 64],
+) -> Finding
+    requires { ⌜ Sound (now b) (now column) ⌝ }
+    requires { ⌜ ((k : ℕ) → k < 5 → Concerned (now b) observer k (getD (now concerned) k 0)) ⌝ }
+    requires { ⌜ ClassOf (length (now column)) (byte (now column)) (now labels) ⌝ }
+    requires { ⌜ first 3 (rule-violation (now b) (observing observer (now column))) ≡ none ⌝ }
+    ensures { λ r. ⌜ FindingOf (now (b .entry)) (observing observer (now (column .entry))) r ⌝ }
+{
+    let silent = concerned[RULE_4];
+    let actions = concerned[RULE_5];
+    if silent == 0 {
+        let found = by_event(
+            b,
+            observer,
+            column,
+            RULE_5,
+            actions,
+            false,
+            labels,
+            labels,
+            scratch,
+            offers,
+        );
+        return Finding {
+            found,
+            taken: column.len(),
+        };
+    }
+    let closure = closures(b, silent);
+    let found = with_closures(
+        b,
+        observer,
+        column,
+        concerned,
+        &closure.sets,
+        labels,
+        scratch,
+        offers,
+    );
+    Finding {
+        found,
+        taken: closure.sizes,
+    }
+}
+
+// Rules 3 to 5. At a violation of rule 3 no state has been taken up.
+fn rules_from_3(b: &[u8], observer: u8, column: &[u8], concerned: &[u64; 5]) -> Finding
     requires { ⌜ Sound (now b) (now column) ⌝ }
     requires { ⌜ ((k : ℕ) → k < 5 → Concerned (now b) observer k (getD (now concerned) k 0)) ⌝ }
     requires { ⌜ first 2 (rule-violation (now b) (observing observer (now column))) ≡ none ⌝ }
-    ensures { λ r. ⌜ found-of r ≡ first-violation (now (b .entry)) (observing observer (now (column .entry))) ⌝ }
+    ensures { λ r. ⌜ FindingOf (now (b .entry)) (observing observer (now (column .entry))) r ⌝ }
 {
     let labels = classes::class_of(column);
     let mut scratch = [0u64; 64];
@@ -284,7 +327,7 @@ fn rules_from_3(b: &[u8], observer: u8, column: &[u8], concerned: &[u64; 5]) -> 
         &mut offers,
     );
     match found {
-        Found::At(_) => return found,
+        Found::At(_) => return Finding { found, taken: 0 },
         Found::Nothing => {}
     }
     rules_from_4(
@@ -298,36 +341,42 @@ fn rules_from_3(b: &[u8], observer: u8, column: &[u8], concerned: &[u64; 5]) -> 
     )
 }
 
-// Rules 2 to 5. Where no two states share a class, rules 3 to 5 ask nothing.
-fn rules_from_2(b: &[u8], observer: u8, column: &[u8], concerned: &[u64; 5]) -> Found
+// Rules 2 to 5. Where no two states share a class, rules 3 to 5 ask nothing, and the states are taken up all the same.
+fn rules_from_2(b: &[u8], observer: u8, column: &[u8], concerned: &[u64; 5]) -> Finding
     requires { ⌜ Sound (now b) (now column) ⌝ }
     requires { ⌜ ((k : ℕ) → k < 5 → Concerned (now b) observer k (getD (now concerned) k 0)) ⌝ }
     requires { ⌜ first 1 (rule-violation (now b) (observing observer (now column))) ≡ none ⌝ }
-    ensures { λ r. ⌜ found-of r ≡ first-violation (now (b .entry)) (observing observer (now (column .entry))) ⌝ }
+    ensures { λ r. ⌜ FindingOf (now (b .entry)) (observing observer (now (column .entry))) r ⌝ }
 {
     let found = rule_2(b, observer, column, concerned[RULE_2]);
     match found {
-        Found::At(_) => return found,
+        Found::At(_) => return Finding { found, taken: 0 },
         Found::Nothing => {}
     }
     if classes::all_distinct(column) {
-        return Found::Nothing;
+        return Finding {
+            found: Found::Nothing,
+            taken: closure_sizes(b, concerned[RULE_4]),
+        };
     }
     rules_from_3(b, observer, column, concerned)
 }
 
-// The first violation of the rules, for an observer of this level and the classes of the column.
-pub fn first_violation(b: &[u8], observer: u8, column: &[u8]) -> Found
+// The first violation of the rules, for an observer of this level and the classes of the column, and how many states are taken up.
+pub fn first_violation(b: &[u8], observer: u8, column: &[u8]) -> Finding
     requires { ⌜ Sound (now b) (now column) ⌝ }
-    ensures { λ r. ⌜ found-of r ≡ first-violation (now (b .entry)) (observing observer (now (column .entry))) ⌝ }
+    ensures { λ r. ⌜ FindingOf (now (b .entry)) (observing observer (now (column .entry))) r ⌝ }
 {
     if Part::events(b) == 0 {
-        return Found::Nothing;
+        return Finding {
+            found: Found::Nothing,
+            taken: column.len(),
+        };
     }
     let concerned = event::concerned(b, observer);
     let found = rule_1(b, observer, column, concerned[RULE_1]);
     match found {
-        Found::At(_) => return found,
+        Found::At(_) => return Finding { found, taken: 0 },
         Found::Nothing => {}
     }
     rules_from_2(b, observer, column, &concerned)

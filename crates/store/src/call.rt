@@ -39,7 +39,8 @@ pub fn load(s: &mut [u8], r: &[u8]) -> Answer
     let Found::End(n, at) = found else {
         return Answer::Refused(Answer::NO_END);
     };
-    let checked = check(r);
+    let report = check(r);
+    let checked = report.verdict;
     match checked {
         Verdict::Refused(k) => return Answer::Refused(k.number() as usize),
         Verdict::Break(v) => return Answer::Breaks(v),
@@ -52,7 +53,8 @@ pub fn load(s: &mut [u8], r: &[u8]) -> Answer
 fn passes(r: &[u8]) -> bool
     ensures { λ a. ⌜ a ≡ passes (now (r .entry)) ⌝ }
 {
-    let checked = check(r);
+    let report = check(r);
+    let checked = report.verdict;
     match checked {
         Verdict::Pass => true,
         Verdict::Refused(_) => false,

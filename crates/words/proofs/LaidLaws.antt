@@ -8,7 +8,8 @@ use native.Mathlib.Omega.{arith}
 use lib.ListN.{length, getD, take, drop, set, length-append, drop-of-length-le, take-append-drop}
 use lib.Seq.{sets, sets-eq, length-sets, set-comm, drop-cons, take-at, drop-at, length-take-le, take-set-le}
 use lib.Seq.{drop-set-add}
-use Rattle.words.specs.LittleEndian.{digits, each}
+use Rattle.bounded.specs.Search.{each}
+use Rattle.words.specs.LittleEndian.{digits}
 use Rattle.words.specs.Laid.{over, Laid}
 use Rattle.words.proofs.LittleEndian.{length-digits, length-each, digits-split}
 

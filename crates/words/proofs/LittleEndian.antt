@@ -2,7 +2,7 @@
 use Prim.Native.Nat.{ℕ, zero, suc, _+_, _*_, _/_, _%_, _^_, _≤_, _<_, suc-le-suc}
 use mathlib.Core.Path.{_≡_, refl, sym, ap, _∙_, subst}
 use mathlib.Core.Logic.{⊎-elim}
-use mathlib.Core.List.{List, [], _∷_, _++_, append-assoc, append-nil}
+use mathlib.Core.List.{List, [], _∷_, _++_, append-assoc}
 use native.Mathlib.Nat.{zero-add, suc-add, add-zero, add-assoc, pow-succ', one-mul, le-step, lt-suc-self}
 use native.Mathlib.Nat.{le-of-suc-le-suc, not-suc-le-zero, eq-or-lt-of-le, zero-mul, mul-one, mul-comm, div-one}
 use native.Mathlib.Nat.{div-div-eq-div-mul}
@@ -11,7 +11,9 @@ use native.Mathlib.Decide.{decLt}
 use native.Mathlib.Omega.{arith}
 use lib.ListN.{length, take, drop, length-append, List·getD-eq-default, List·getD-append}
 use lib.Seq.{drop-cons, getD-drop, getD-append-add, drop-append-seam, drop-drop, take-add}
-use Rattle.words.specs.LittleEndian.{Bytes, byte, number, digits, each}
+use Rattle.bounded.specs.Search.{each}
+use Rattle.bounded.proofs.Lists.{each-add}
+use Rattle.words.specs.LittleEndian.{Bytes, byte, number, digits}
 
 pub byte-lt : (b : List ℕ) → Bytes b → (i : ℕ) → byte b i < 256
 byte-lt b h i = elim (decLt i (length b)) [ yes l ↦ h i l | no l ↦ past (List·getD-eq-default b 0 (omega arith)) ]
@@ -115,19 +117,6 @@ digits-number (suc k) b at h l =
 pub part-join : (j k : ℕ) (b : List ℕ) (at : ℕ)
     → take j (drop at b) ++ take k (drop (at + j) b) ≡ take (j + k) (drop at b)
 part-join j k b at = rw (take-add, drop-drop)
-
-pub each-same : (n : ℕ) (f g : ℕ → List ℕ) → ((i : ℕ) → i < n → f i ≡ g i) → each n f ≡ each n g
-unfolding each
-each-same zero f g h = refl
-each-same (suc n) f g h = rw (each-same n f g (λ i l. h i (le-step l)), h n (lt-suc-self n))
-
--- The first m pieces, and the n behind them.
-pub each-add : (m n : ℕ) (f : ℕ → List ℕ) → each (m + n) f ≡ each m f ++ each n (λ i. f (m + i))
-unfolding each
-each-add m zero f = rw (add-zero m) (sym (append-nil (each m f)))
-each-add m (suc n) f =
-    let whole : m + suc n ≡ suc (m + n) = omega arith in
-    rw (whole, each-add m n f) (append-assoc (each m f) (each n (λ i. f (m + i))) (f (m + n)))
 
 -- Pieces numbered by pairs.
 pub each-product : (m n : ℕ) (f : ℕ → List ℕ) → each m (λ a. each n (λ b. f (a * n + b))) ≡ each (m * n) f

@@ -1,6 +1,6 @@
 -- Numbers in bytes, lowest byte first (document 01: "All numbers are little-endian").
 use Prim.Native.Nat.{ℕ, zero, suc, _+_, _*_, _/_, _%_, _<_}
-use mathlib.Core.List.{List, [], _∷_, _++_}
+use mathlib.Core.List.{List, [], _∷_}
 use lib.ListN.{length, getD}
 
 -- Every element is a byte. So it is in each list that stands for bytes of the program.
@@ -20,8 +20,3 @@ number (suc k) b at = byte b at + 256 * number k b (at + 1)
 unfoldable pub digits : ℕ → ℕ → List ℕ
 digits zero v = []
 digits (suc k) v = v % 256 ∷ digits k (v / 256)
-
--- chunk 0, chunk 1, .., chunk (n - 1), one behind the other.
-unfoldable pub each : ℕ → (ℕ → List ℕ) → List ℕ
-each zero chunk = []
-each (suc n) chunk = each n chunk ++ chunk n

@@ -21,4 +21,6 @@ pub use passing::{
     LITTLE_QUIET, SOME_QUIET,
 };
 pub use scripts::{calls, capacity_needed, hookup_calls, session, Script};
-pub use shapes::{shaped, steps_of_shape, with_near_levels, with_quiet_steps, Shape, SHAPES};
+pub use shapes::{
+    passing_shaped, shaped, shaped_without_inputs, steps_of_shape, with_near_levels, with_quiet_steps, Shape, SHAPES,
+};

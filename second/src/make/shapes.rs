@@ -158,6 +158,40 @@ fn spread(rng: &mut Rng, part: &mut Part, table: &[Vec<bool>], events: &[usize])
     }
 }
 
+/// A part with quiet steps of that shape that passes, in one class or with a class for each state. All other events
+/// have a step from each state, and where classes differ high inputs stay.
+pub fn passing_shaped(rng: &mut Rng, shape: Shape, n: usize, m: usize, one_class: bool) -> Part {
+    let mut part = shaped(rng, shape, n, m);
+    part.classes = if one_class { vec![0; n] } else { (0..n as u8).collect() };
+    for e in 0..m {
+        if check::is_quiet(&part, e) {
+            continue;
+        }
+        let stays = part.is_input(e) && part.is_high(e) && !one_class;
+        for s in 0..n {
+            if stays {
+                part.steps[e][s] = vec![false; n];
+                part.steps[e][s][s] = true;
+            } else if !part.steps[e][s].contains(&true) {
+                let t = rng.below(n);
+                part.steps[e][s][t] = true;
+            }
+        }
+    }
+    part
+}
+
+/// A part with quiet steps of that shape and low outputs in the place of inputs: only rules 4 and 5 can be broken.
+pub fn shaped_without_inputs(rng: &mut Rng, shape: Shape, n: usize, m: usize) -> Part {
+    let mut part = shaped(rng, shape, n, m);
+    for e in 0..m {
+        if part.is_input(e) {
+            part.events[e] = event(rng, part.observer, part.events[e].identifier, Role::LowOutput);
+        }
+    }
+    part
+}
+
 /// The same part with another observer and levels near it: equal, or one rank or compartment away. Which events are
 /// quiet changes with them.
 pub fn with_near_levels(rng: &mut Rng, part: &Part) -> Part {
@@ -187,6 +221,33 @@ mod tests {
             let part = with_quiet_steps(&mut rng, &table, m);
             assert_eq!(check::quiet_steps(&part), table);
         }
+    }
+
+    #[test]
+    fn passing_parts_pass() {
+        let mut rng = Rng::new(59);
+        for round in 0..300 {
+            let n = rng.range(1, 9);
+            let m = rng.range(0, 6);
+            let part = passing_shaped(&mut rng, SHAPES[round % SHAPES.len()], n, m, round % 2 == 0);
+            assert!(check::passes(&part));
+        }
+    }
+
+    #[test]
+    fn without_inputs_rules_4_and_5_alone_are_broken() {
+        let mut rng = Rng::new(60);
+        let mut broken = [0; 6];
+        for round in 0..600 {
+            let n = rng.range(1, 9);
+            let m = rng.range(0, 6);
+            let part = shaped_without_inputs(&mut rng, SHAPES[round % SHAPES.len()], n, m);
+            if let Some(found) = check::first_break(&part) {
+                broken[found.rule as usize] += 1;
+            }
+        }
+        assert_eq!(broken[..4], [0; 4]);
+        assert!(broken[4] > 50 && broken[5] > 50, "{:?}", broken);
     }
 
     #[test]

@@ -9,10 +9,10 @@ check-requires : tie.Need-check-requires
 check-requires c κs = search needs
 
 check-number-requires : tie.Need-check-number-requires
-check-number-requires c κs = λ w e. break-rule _ w (sym (c .check .ensures) ∙ e)
+check-number-requires c κs = λ w e. break-rule _ w (sym (c .check .ensures .verdict) ∙ e)
 
 returns : tie.Need-returns
-returns c = c .check-number .ensures .0 ∙ ap check-number (c .before .check .ensures)
+returns c = c .check-number .ensures .0 ∙ ap check-number (c .before .check .ensures .verdict)
 
 pub hookup-check-spec : {M : Type 1} → statement M
 hookup-check-spec = tie.close (tie.spec check-requires check-number-requires returns)

@@ -21,7 +21,7 @@ check-requires-2 c κs = search needs
 
 returns-2 : tie.Need-returns-2
 returns-2 c =
-    c .check2 .ensures ∙ ap verdict
+    c .check2 .ensures .verdict ∙ ap verdict
     (sym (take-all judged-bytes (c .before .before .before .args .input .now) (omega arith)))
 
 pub judge-spec : {M : Type 1} → statement M

@@ -1,4 +1,5 @@
-//! Compares hookup_closure: the number, every byte of the output buffer, and that nothing else is written.
+//! Compares hookup_closure: the number, every byte of the output buffer, and that nothing else is written. Where all
+//! small tables are tried, hookup_explain is compared on them too.
 
 use crate::product::{self, Lent};
 use crate::report::differ;
@@ -8,12 +9,13 @@ use second::category::Tally;
 use second::category_closure::{self, LONGEST};
 use second::closure::{self, PIECE};
 use second::examples;
+use second::explain::EXPLANATION;
 use second::make::{self, Shape, SHAPES};
 use second::record::{self, Part};
 use second::replay::hex;
 
-const UP_TO_3_STATES: &str = "closure: each table of quiet steps of up to 3 states";
-const OF_4_STATES: &str = "closure: each table of quiet steps of 4 states, none that stays";
+const UP_TO_3_STATES: &str = "closure and explain: each table of quiet steps of up to 3 states";
+const OF_4_STATES: &str = "closure and explain: each table of quiet steps of 4 states, none that stays";
 
 pub fn need(tally: &mut Tally) {
     for name in category_closure::names() {
@@ -102,9 +104,13 @@ impl Comparison {
 
     pub fn all_closures(&mut self) {
         for bytes in all_examples() {
-            for room in [0, 71, 72, 143, 144, 145, 215, 216, 217, LONGEST] {
-                self.close(&bytes, room);
+            for pieces in 1..=5 {
+                for room in [PIECE * pieces - 1, PIECE * pieces, PIECE * pieces + 1] {
+                    self.close(&bytes, room);
+                }
             }
+            self.close(&bytes, 0);
+            self.close(&bytes, LONGEST);
             self.closures_cut_and_changed(&bytes);
         }
         for n in [1, 2, 63, 64] {
@@ -137,10 +143,10 @@ impl Comparison {
             let part = make::shaped(&mut self.rng, SHAPES[round % SHAPES.len()], n, m);
             self.close_part(&part);
         }
-        for round in 0..7 * LEAST {
+        for round in 0..8 * LEAST {
             let m = self.rng.range(1, 4);
-            let shapes = [Shape::LineDown, Shape::LineUp, Shape::Line, Shape::Some];
-            let shape = if round % 5 == 4 { self.rng.pick(&SHAPES) } else { shapes[round % 5] };
+            let shapes = [Shape::LineDown, Shape::LineUp, Shape::Line, Shape::Some, Shape::StarOut];
+            let shape = if round % 6 == 5 { self.rng.pick(&SHAPES) } else { shapes[round % 6] };
             let part = make::shaped(&mut self.rng, shape, 64, m);
             self.close_part(&part);
         }
@@ -210,7 +216,9 @@ impl Comparison {
             }
             let m = self.rng.range(1, 3);
             let part = make::with_quiet_steps(&mut self.rng, &table, m);
-            self.close(&record::write(&part), PIECE * n);
+            let bytes = record::write(&part);
+            self.close(&bytes, PIECE * n);
+            self.explain(&bytes, EXPLANATION);
             self.tally.count(name);
         }
     }

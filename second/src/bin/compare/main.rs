@@ -7,6 +7,7 @@
 
 mod check;
 mod closure;
+mod explain;
 mod join;
 mod product;
 mod replay;
@@ -87,7 +88,7 @@ fn arguments() -> Arguments {
     found
 }
 
-/// Each of the five comparisons has its own numbers, so that leaving one out does not change the others.
+/// Each of the six comparisons has its own numbers, so that leaving one out does not change the others.
 fn rng_for(seed: u64, comparison: u64) -> Rng {
     Rng::new(Rng::new(seed).next().wrapping_add(comparison))
 }
@@ -104,6 +105,7 @@ fn main() {
     check::need(&mut run.tally);
     join::need(&mut run.tally);
     closure::need(&mut run.tally);
+    explain::need(&mut run.tally);
     let started = Instant::now();
     run.all_checks();
     println!("hookup_check compared, {} s", started.elapsed().as_secs());
@@ -115,6 +117,10 @@ fn main() {
     let started = Instant::now();
     run.all_closures();
     println!("hookup_closure compared, {} s", started.elapsed().as_secs());
+    run.rng = rng_for(arguments.seed, 6);
+    let started = Instant::now();
+    run.all_explanations();
+    println!("hookup_explain compared, {} s", started.elapsed().as_secs());
     match run.verdict.clone() {
         Some(path) => {
             verdict::need(&mut run.tally);

@@ -1,4 +1,4 @@
-//! Calls the product: its three C entries, and its programs as processes.
+//! Calls the product: its four C entries, and its programs as processes.
 
 use second::rng::Rng;
 use std::io::{Read, Write};
@@ -8,6 +8,7 @@ extern "C" {
     fn hookup_check(record: *const u8, len: usize) -> u32;
     fn hookup_join(a: *const u8, alen: usize, b: *const u8, blen: usize, out: *mut u8, outlen: usize) -> u32;
     fn hookup_closure(record: *const u8, len: usize, out: *mut u8, outlen: usize) -> u32;
+    fn hookup_explain(record: *const u8, len: usize, out: *mut u8, outlen: usize) -> u32;
 }
 
 /// Bytes lent to the product, with guard bytes before and behind them, at any alignment.
@@ -86,6 +87,11 @@ pub fn join(a: &Lent, b: &Lent, out: &mut Lent) -> u32 {
 /// What hookup_closure returns; it writes to `out`.
 pub fn closure(record: &Lent, out: &mut Lent) -> u32 {
     unsafe { hookup_closure(record.pointer(), record.length, out.pointer_to_write(), out.length) }
+}
+
+/// What hookup_explain returns; it writes to `out`.
+pub fn explain(record: &Lent, out: &mut Lent) -> u32 {
+    unsafe { hookup_explain(record.pointer(), record.length, out.pointer_to_write(), out.length) }
 }
 
 /// Runs a program on an input; its output, or how it failed.

@@ -42,7 +42,7 @@ is-accepted c = rejection-none _ .0 (accepted c)
 
 -- how many bytes the pieces take
 size : (c : tie.After-states) → length (pieces (c .before .before .before .before .before .before .args .bytes .now))
-    ≡ c .states .result * 72
+    ≡ c .states .result * 136
 size c = rw (c .states .ensures .0) (length-pieces _ (is-accepted (c .before)))
 
 states-requires : tie.Need-states-requires

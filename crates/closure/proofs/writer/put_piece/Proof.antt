@@ -16,16 +16,24 @@ add-lay c = search needs
 lay-requires : tie.Need-lay-requires
 lay-requires c κs = search needs
 
+add-lay-2 : tie.Need-add-lay-2
+add-lay-2 c = search needs
+
+lay-requires-2 : tie.Need-lay-requires-2
+lay-requires-2 c κs = search needs
+
 same-length : tie.Need-same-length
 same-length c = search needs
 
 returns : tie.Need-returns
 returns c =
-    let laid = c .before .before in
-    let put = laid .before .before .before .before .before .before .before in
-    let found = put .before .before in
-    piece-laid _ _ _ _ (found .before .before .pre .0) (found .closure-of .ensures) (put .put64 .ensures)
-    (laid .lay .ensures .text)
+    let distances = c .before .before in
+    let visits = distances .before .before .before .before .before .before .before in
+    let set = visits .before .before .before .before .before .before .before in
+    let found = set .before .before .closure-of in
+    piece-laid _ _ _ _ (found .ensures) (set .put64 .ensures) (visits .lay .ensures .text)
+    (distances .lay2 .ensures .text)
 
 pub put-piece-spec : {M : Type 1} → statement M
-put-piece-spec = tie.close (tie.spec closure-of-requires put64-requires add-lay lay-requires same-length returns)
+put-piece-spec = tie.close (tie.spec closure-of-requires put64-requires add-lay lay-requires add-lay-2 lay-requires-2
+    same-length returns)

@@ -2,22 +2,21 @@ use Prim.Native.Nat.{_+_, _-_, _*_, _≤_, _<_}
 use mathlib.Core.Path.{_≡_, ap, _∙_}
 use native.Mathlib.Omega.{arith}
 use lib.ListN.{length}
-use Rattle.bounded.specs.Paths.{visits-by}
-use Rattle.words.specs.LittleEndian.{each}
+use Rattle.bounded.specs.Search.{each}
 use Rattle.words.specs.Laid.{over}
 use Rattle.words.proofs.LaidLaws.{length-over, nothing-laid}
 use Rattle.part.specs.Record.{states}
 use Rattle.part.proofs.Ranges.{frame}
 use Rattle.relations.specs.Sets.{in-rows}
-use Rattle.closure.specs.Pieces.{visits-bytes}
-use Rattle.closure.proofs.PieceBytes.{pieces-turn, pieces-visits, length-pieces}
+use Rattle.closure.specs.Pieces.{piece-by}
+use Rattle.closure.proofs.PieceBytes.{pieces-turn, same-pieces, length-pieces}
 use Rattle.closure.proofs.writer.put_pieces.Statement.{statement}
 use Rattle.closure.proofs.writer.put_pieces.Tie as tie
 
 -- The pieces of the states below s are laid.
 abbrev Inv-loop : tie.InvT-loop
 Inv-loop out₀ b rows n s₀ out s =
-    (s ≤ n) × (out ≡ over out₀ 0 (each s (λ u. visits-bytes (visits-by (in-rows rows) 64 u))))
+    (s ≤ n) × (out ≡ over out₀ 0 (each s (piece-by (in-rows rows) 64)))
 
 abbrev μ-loop : tie.MeasureT-loop
 μ-loop out₀ b rows n s₀ out s = n - s
@@ -40,7 +39,7 @@ states-requires c κs = let f = frame _ (c .before .before .before .before .befo
 -- the piece of the next state has its place
 room : (c : tie.In-loop Inv-loop μ-loop) →
     let start = c .before .before .before .before .before .before .before .before in
-    (c .before .loop .s < 64) × (c .before .loop .s * 72 + 72 ≤ length (start .args .out .now))
+    (c .before .loop .s < 64) × (c .before .loop .s * 136 + 136 ≤ length (start .args .out .now))
 room c =
     let start = c .before .before .before .before .before .before .before .before in
     let (a, fits) = start .pre in
@@ -68,8 +67,7 @@ loop-again : tie.Need-loop-again Inv-loop μ-loop
 loop-again c =
     let loop = c .before .before .before .before .before .before in (
       omega arith,
-      pieces-turn _ _ (loop .loop .s) (room (c .before .before .before .before .before) .0) (loop .loop .inv .1)
-          (c .before .before .put-piece .ensures),
+      pieces-turn _ _ (loop .loop .s) (loop .loop .inv .1) (c .before .before .put-piece .ensures),
     )
 
 same-length : tie.Need-same-length Inv-loop μ-loop
@@ -83,7 +81,7 @@ returns c =
     let start = concerned .before .before .before .before in
     let all : l .s ≡ states (start .args .b .now) = omega arith in
     let silent = rw (concerned .before .observer .ensures) at (concerned .concerned .ensures 3 (omega arith)) in
-    l .inv .1 ∙ ap (over _ 0) (rw all (pieces-visits _ (start .pre .0) _ silent _ (rows .step-rows .ensures .words)))
+    l .inv .1 ∙ ap (over _ 0) (rw all (same-pieces _ (start .pre .0) _ silent _ (rows .step-rows .ensures .words)))
 
 pub put-pieces-spec : {M : Type 1} → statement M
 put-pieces-spec = tie.close (tie.spec Inv-loop μ-loop observer-requires concerned-requires array-read-step-rows

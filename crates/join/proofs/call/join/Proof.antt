@@ -28,12 +28,12 @@ use Rattle.join.proofs.call.join.Tie as tie
 first-passes : (c : tie.After-enum-told)
     → verdict (c .before .before .before .before .before .before .args .a .now) ≡ pass
 unfolding verdict-of
-first-passes c = sym (c .before .before .check .ensures) ∙ ap verdict-of (c .enum-told .given .1)
+first-passes c = sym (c .before .before .check .ensures .verdict) ∙ ap verdict-of (c .enum-told .given .1)
 
 second-passes : (c : tie.After-enum-told2)
     → verdict (c .before .before .before .before .before .before .before .before .before .args .b .now) ≡ pass
 unfolding verdict-of
-second-passes c = sym (c .before .before .check2 .ensures) ∙ ap verdict-of (c .enum-told2 .given .1)
+second-passes c = sym (c .before .before .check2 .ensures .verdict) ∙ ap verdict-of (c .enum-told2 .given .1)
 
 unstopped : (c : tie.After-enum-told3) → let a =
     c .before .before .before .before .before .before .before .before .before .before .before .before .before .args in
@@ -57,7 +57,7 @@ enum-known-first c = search needs
 returns : tie.Need-returns
 unfolding joining-of side-of verdict-of buffer-after
 returns c =
-    let seen = sym (c .before .before .before .check .ensures) ∙ ap verdict-of (c .before .first .given .1) in
+    let seen = sym (c .before .before .before .check .ensures .verdict) ∙ ap verdict-of (c .before .first .given .1) in
     (sym (first-unfit _ _ _ seen (refuses _)), refl)
 
 enum-known-first-2 : tie.Need-enum-known-first-2
@@ -66,7 +66,7 @@ enum-known-first-2 c = search needs
 returns-2 : tie.Need-returns-2
 unfolding joining-of side-of verdict-of buffer-after
 returns-2 c =
-    let seen = sym (c .before .before .before .check .ensures) ∙ ap verdict-of (c .before .first2 .given .1) in
+    let seen = sym (c .before .before .before .check .ensures .verdict) ∙ ap verdict-of (c .before .first2 .given .1) in
     (sym (first-unfit _ _ _ seen (breaking _)), refl)
 
 enum-told : tie.Need-enum-told
@@ -81,7 +81,8 @@ enum-known-second c = search needs
 returns-3 : tie.Need-returns-3
 unfolding joining-of side-of verdict-of buffer-after
 returns-3 c =
-    let seen = sym (c .before .before .before .check2 .ensures) ∙ ap verdict-of (c .before .second .given .1) in
+    let seen =
+    sym (c .before .before .before .check2 .ensures .verdict) ∙ ap verdict-of (c .before .second .given .1) in
     (sym (second-unfit _ _ _ (first-passes (c .before .before .before .before)) seen (refuses _)), refl)
 
 enum-known-second-2 : tie.Need-enum-known-second-2
@@ -90,7 +91,8 @@ enum-known-second-2 c = search needs
 returns-4 : tie.Need-returns-4
 unfolding joining-of side-of verdict-of buffer-after
 returns-4 c =
-    let seen = sym (c .before .before .before .check2 .ensures) ∙ ap verdict-of (c .before .second2 .given .1) in
+    let seen =
+    sym (c .before .before .before .check2 .ensures .verdict) ∙ ap verdict-of (c .before .second2 .given .1) in
     (sym (second-unfit _ _ _ (first-passes (c .before .before .before .before)) seen (breaking _)), refl)
 
 enum-told-2 : tie.Need-enum-told-2

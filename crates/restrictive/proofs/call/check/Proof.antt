@@ -2,13 +2,10 @@ use mathlib.Core.Path.{_≡_, refl, sym, ap, _∙_}
 use mathlib.Core.Option.{none}
 use denote.Ref.{now}
 use native.Mathlib.Omega.{arith}
-use Rattle.part.specs.Record.{observer-of}
 use Rattle.part.specs.Rejections.{rejection}
 use Rattle.part.specs.Answers.{rejection-of}
 use Rattle.restrictive.specs.Answers.{verdict-of}
-use Rattle.restrictive.specs.Found.{found-of}
-use Rattle.restrictive.specs.Verdict.{by-rules, first-violation}
-use Rattle.restrictive.proofs.Verdicts.{refused-verdict, rules-verdict, ready}
+use Rattle.restrictive.proofs.Verdicts.{reports-refused, reports-rules, ready}
 use borrow.Author.Needs.{needs}
 use Rattle.restrictive.proofs.call.check.Statement.{statement}
 use Rattle.restrictive.proofs.call.check.Tie as tie
@@ -22,8 +19,8 @@ enum-known-screened c = search needs
 returns : tie.Need-returns
 unfolding verdict-of rejection-of
 returns c =
-    sym (refused-verdict _ _
-    (sym (c .before .before .before .screen .ensures) ∙ ap rejection-of (c .before .screened .given .1)))
+    reports-refused _ _
+    (sym (c .before .before .before .screen .ensures) ∙ ap rejection-of (c .before .screened .given .1)) refl
 
 enum-told : tie.Need-enum-told
 enum-told c = search needs
@@ -42,31 +39,17 @@ column-requires c κs = ready _ (accepted (c .before)) .framed
 first-violation-requires : tie.Need-first-violation-requires
 first-violation-requires c κs = rw (c .column .ensures) (ready _ (accepted (c .before .before)))
 
-enum-known-found : tie.Need-enum-known-found
-enum-known-found c = search needs
-
-enum-told-2 : tie.Need-enum-told-2
-enum-told-2 c = search needs
-
--- what the search finds is the record's own first violation
-own : (c : tie.After-first-violation)
-    → found-of (c .first-violation .result)
-    ≡ first-violation (now (c .before .before .before .before .before .before .before .args .bytes))
-    (observer-of (now (c .before .before .before .before .before .before .before .args .bytes)))
-own c = c .first-violation .ensures ∙ rw (c .before .column .ensures, c .before .before .observer .ensures) refl
+by-rules-requires : tie.Need-by-rules-requires
+by-rules-requires c κs = search needs
 
 returns-2 : tie.Need-returns-2
-unfolding verdict-of found-of by-rules
 returns-2 c =
-    sym (rules-verdict _ _ (accepted (c .before .before .before .before .before .before))
-    (sym (own (c .before .before .before)) ∙ ap found-of (c .before .found .given .1)))
-
-returns-3 : tie.Need-returns-3
-unfolding verdict-of found-of by-rules
-returns-3 c =
-    sym (rules-verdict _ _ (accepted (c .before .before .before .before .before))
-    (sym (own (c .before .before)) ∙ ap found-of (c .enum-told2 .given .1)))
+    let rules = c .before in
+    let found = rules .first-violation in
+    let finds =
+    rw (rules .before .column .ensures, rules .before .before .observer .ensures) at (found .ensures) in
+    reports-rules _ (found .result) (accepted (rules .before .before .before)) finds (c .by-rules .ensures)
 
 pub check-spec : {M : Type 1} → statement M
 check-spec = tie.close (tie.spec screen-requires enum-known-screened returns enum-told observer-requires column-requires
-    first-violation-requires enum-known-found enum-told-2 returns-2 returns-3)
+    first-violation-requires by-rules-requires returns-2)

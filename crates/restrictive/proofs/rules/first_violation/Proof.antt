@@ -1,13 +1,14 @@
-use mathlib.Core.Path.{refl, sym}
+use mathlib.Core.Path.{_≡_, refl, sym, _∙_}
 use denote.Ref.{now}
 use native.Mathlib.Omega.{arith}
 use borrow.Author.Needs.{needs}
 use Rattle.bounded.specs.Search.{first}
-use Rattle.part.specs.Record.{observing}
-use Rattle.restrictive.specs.Found.{found-of}
-use Rattle.restrictive.specs.Verdict.{rule-violation, first-violation}
+use Rattle.part.specs.Record.{events, observing}
+use Rattle.relations.proofs.SilentReach.{closure-total, sizes-alone, concerned-none}
+use Rattle.restrictive.specs.Verdict.{rule-violation}
 use Rattle.restrictive.proofs.Sameness.{no-events}
-use Rattle.restrictive.proofs.Scans.{found-first, nothing-more}
+use Rattle.restrictive.proofs.Scans.{nothing-more}
+use Rattle.restrictive.proofs.Taken.{finds-early, finds-none}
 use Rattle.restrictive.proofs.rules.first_violation.Statement.{statement}
 use Rattle.restrictive.proofs.rules.first_violation.Tie as tie
 
@@ -15,10 +16,11 @@ events-requires : tie.Need-events-requires
 events-requires c κs = search needs
 
 returns : tie.Need-returns
-unfolding found-of
-returns c = let start = c .before .before .before .before in
-    sym (no-events _ (observing (start .args .observer) (now (start .args .column)))
-    (let m = c .before .events .ensures .0 in omega arith))
+returns c =
+    let start = c .before .before .before .before in
+    let none-there : events (now (start .args .b)) ≡ 0 = let m = c .before .events .ensures .0 in omega arith in
+    finds-none _ _ (no-events _ (observing (start .args .observer) (now (start .args .column))) none-there)
+    (start .pre .sized ∙ sym (sizes-alone _ 0 refl) ∙ closure-total _ _ _ (concerned-none _ _ _ none-there))
 
 concerned-requires : tie.Need-concerned-requires
 concerned-requires c κs = search needs
@@ -33,10 +35,9 @@ enum-told : tie.Need-enum-told
 enum-told c = search needs
 
 returns-2 : tie.Need-returns-2
-unfolding first-violation first
+unfolding first
 returns-2 c =
-    found-first (rule-violation _ _) 0 _ (c .before .before .rule-1 .ensures) refl 5 _ (c .enum-told .given .1)
-    (omega arith)
+    finds-early _ _ 0 (omega arith) (c .before .before .rule-1 .ensures) refl (c .enum-told .given .1)
 
 enum-told-2 : tie.Need-enum-told-2
 enum-told-2 c = search needs

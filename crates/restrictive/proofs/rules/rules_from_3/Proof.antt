@@ -2,9 +2,9 @@ use mathlib.Core.Path.{refl}
 use native.Mathlib.Omega.{arith}
 use borrow.Author.Needs.{needs}
 use Rattle.bounded.proofs.Search.{true-not-false}
-use Rattle.restrictive.specs.Verdict.{first-violation}
 use Rattle.restrictive.proofs.OfferArrays.{direct-led}
-use Rattle.restrictive.proofs.Scans.{found-first, nothing-more}
+use Rattle.restrictive.proofs.Scans.{nothing-more}
+use Rattle.restrictive.proofs.Taken.{finds-early}
 use Rattle.restrictive.proofs.rules.rules_from_3.Statement.{statement}
 use Rattle.restrictive.proofs.rules.rules_from_3.Tie as tie
 
@@ -33,13 +33,10 @@ enum-told : tie.Need-enum-told
 enum-told c = search needs
 
 returns : tie.Need-returns
-unfolding first-violation
 returns c =
     let three = c .before .before in
-    found-first _ 2 _ (three .by-event .ensures)
-    (three .before .before .before .before .before .before .before .before .before .pre .1 .1) 5 _
-    (c .enum-told .given .1)
-    (omega arith)
+    finds-early _ _ 2 (omega arith) (three .by-event .ensures)
+    (three .before .before .before .before .before .before .before .before .before .pre .1 .1) (c .enum-told .given .1)
 
 enum-told-2 : tie.Need-enum-told-2
 enum-told-2 c = search needs

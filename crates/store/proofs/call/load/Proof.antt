@@ -41,8 +41,8 @@ enum-known-checked c = search needs
 number-requires : tie.Need-number-requires
 number-requires c κs = search needs
 
-cast-t12 : tie.Need-cast-t12
-cast-t12 c = search needs
+cast-t13 : tie.Need-cast-t13
+cast-t13 c = search needs
 
 same-length-2 : tie.Need-same-length-2
 same-length-2 c = search needs
@@ -53,7 +53,7 @@ returns-2 c =
     let checked = c .before .before in
     let walked = c .before .before .before .before .before .before in
     let a = walked .before .before .before .before .before .before .args in
-    let told = sym (checked .before .before .check .ensures) ∙ ap verdict-of (checked .checked .given .1) in
+    let told = sym (checked .before .before .check .ensures .verdict) ∙ ap verdict-of (checked .checked .given .1) in
     rw (load-refused (a .s .now) (a .r .now) _ (found walked .ends) _ told, c .number .ensures .0) (refl, refl)
 
 enum-known-checked-2 : tie.Need-enum-known-checked-2
@@ -68,7 +68,7 @@ returns-3 c =
     let checked = c .before in
     let walked = c .before .before .before .before .before in
     let a = walked .before .before .before .before .before .before .args in
-    let told = sym (checked .before .before .check .ensures) ∙ ap verdict-of (checked .checked2 .given .1) in
+    let told = sym (checked .before .before .check .ensures .verdict) ∙ ap verdict-of (checked .checked2 .given .1) in
     rw (load-breaks (a .s .now) (a .r .now) _ (found walked .ends) _ told) (refl, refl)
 
 enum-told-2 : tie.Need-enum-told-2
@@ -86,7 +86,7 @@ returns-4 c =
     let checked = c .before .before .before .before in
     let walked = c .before .before .before .before .before .before .before .before in
     let a = walked .before .before .before .before .before .before .args in
-    let told = sym (checked .before .before .check .ensures) ∙ ap verdict-of (checked .enum-told2 .given .1) in
+    let told = sym (checked .before .before .check .ensures .verdict) ∙ ap verdict-of (checked .enum-told2 .given .1) in
     rw (load-passing (a .s .now) (a .r .now) _ (found walked .ends) told) (c .before .before .append .ensures)
 
 pub load-spec : {M : Type 1} → statement M
@@ -101,7 +101,7 @@ load-spec =
     check-requires
     enum-known-checked
     number-requires
-    cast-t12
+    cast-t13
     same-length-2
     returns-2
     enum-known-checked-2

@@ -19,15 +19,15 @@ enum-told-3 c = search needs
 
 returns : tie.Need-returns
 unfolding passes verdict-of
-returns c = rw (sym (c .before .before .check .ensures) ∙ ap verdict-of (c .enum-told .given .1), passes)
+returns c = rw (sym (c .before .before .check .ensures .verdict) ∙ ap verdict-of (c .enum-told .given .1), passes)
 
 returns-2 : tie.Need-returns-2
 unfolding passes verdict-of
-returns-2 c = rw (sym (c .before .before .check .ensures) ∙ ap verdict-of (c .enum-told2 .given .1), passes)
+returns-2 c = rw (sym (c .before .before .check .ensures .verdict) ∙ ap verdict-of (c .enum-told2 .given .1), passes)
 
 returns-3 : tie.Need-returns-3
 unfolding passes verdict-of
-returns-3 c = rw (sym (c .before .before .check .ensures) ∙ ap verdict-of (c .enum-told3 .given .1), passes)
+returns-3 c = rw (sym (c .before .before .check .ensures .verdict) ∙ ap verdict-of (c .enum-told3 .given .1), passes)
 
 pub passes-spec : {M : Type 1} → statement M
 passes-spec =

@@ -1,0 +1,35 @@
+use mathlib.Core.Path.{refl, _∙_}
+use native.Mathlib.Omega.{arith}
+use borrow.Author.Needs.{needs}
+use borrow.Author.Tests.{lt-ltb, le-ltb}
+use lib.ListN.{length}
+use Rattle.explain.specs.Answers.{explaining-of}
+use Rattle.explain.proofs.call.tell.Statement.{statement}
+use Rattle.explain.proofs.call.tell.Tie as tie
+
+returns : tie.Need-returns
+unfolding explaining-of
+returns c =
+    let short = lt-ltb (length (c .before .before .args .out .now)) 64 (omega (arith, c .if1 .taken)) in
+    (rw short refl, rw short refl)
+
+numbers-requires : tie.Need-numbers-requires
+numbers-requires c κs = search needs
+
+put-numbers-requires : tie.Need-put-numbers-requires
+put-numbers-requires c κs = omega (arith, c .before .before .before .if1 .left)
+
+same-length : tie.Need-same-length
+same-length c = search needs
+
+returns-2 : tie.Need-returns-2
+unfolding explaining-of
+returns-2 c =
+    let put = c .before .before in
+    let made = put .before .before .before in
+    let test = made .before in
+    let room = le-ltb (length (test .before .before .args .out .now)) 64 (omega (arith, test .if1 .left)) in
+    (rw room refl, rw room (put .put-numbers .ensures ∙ rw (made .numbers .ensures) refl))
+
+pub tell-spec : {M : Type 1} → statement M
+tell-spec = tie.close (tie.spec returns numbers-requires put-numbers-requires same-length returns-2)

@@ -1,0 +1,62 @@
+-- What the call answers and writes, on records of document 01.
+use Prim.Native.Nat.{ℕ}
+use mathlib.Core.Path.{_≡_, refl}
+use mathlib.Core.List.{List, [], _∷_, _++_}
+use lib.ListN.{set, replicate}
+use Rattle.bounded.specs.Search.{each}
+use Rattle.words.specs.Laid.{over}
+use Rattle.words.specs.LittleEndian.{digits}
+use Rattle.part.specs.Samples.{P, Z, T}
+use Rattle.restrictive.specs.Verdict.{Verdict, refused}
+use Rattle.restrictive.specs.Judged.{judged, counted, broken-at}
+use Rattle.explain.specs.Explanation.{numbers, as-bytes, explanation, explained, buffer-after}
+
+-- The explanation and the answer, as they compute.
+written : List ℕ → List ℕ
+unfolding judged counted explanation numbers as-bytes each digits
+written b = explanation b
+
+answered : List ℕ → ℕ → Verdict
+unfolding judged explained
+answered b room = explained (judged b) room
+
+-- T with a silent step from 0 to 2, for an observer of this level: rule 4 is broken by event 1 at 0, 2 and 1. The closure of 0 has two
+-- states.
+abbrev leaking : ℕ → List ℕ
+leaking observer = set (T 1 0xC0 4 0 0) 6 observer
+
+a-break : written (leaking 0x40) ≡ as-bytes (4 ∷ 1 ∷ 0 ∷ 2 ∷ 1 ∷ 4 ∷ 0x40 ∷ 0 ∷ [])
+unfolding written
+a-break = refl
+
+-- P passes, and its observer's level is not told.
+a-pass : written P ≡ as-bytes (0 ∷ 0 ∷ 0 ∷ 0 ∷ 0 ∷ 2 ∷ 0 ∷ 1 ∷ [])
+unfolding written
+a-pass = refl
+
+-- 64 bytes are enough, and one less is not, where there is something to explain.
+enough : answered (leaking 0) 64 ≡ broken-at 4 1 0 2 1
+unfolding answered
+enough = refl
+
+short : answered (leaking 0) 63 ≡ refused 15
+unfolding answered
+short = refl
+
+short-pass : answered P 63 ≡ refused 15
+unfolding answered
+short-pass = refl
+
+-- The record's own refusal comes first.
+refusal-first : answered [] 0 ≡ refused 1
+unfolding answered
+refusal-first = refl
+
+-- Later bytes stay, and all do where the call is refused.
+after : buffer-after (answered Z 65) (written Z) (replicate 65 9) ≡ as-bytes (0 ∷ 0 ∷ 0 ∷ 0 ∷ 0 ∷ 1 ∷ 0 ∷ 1 ∷ []) ++ (9 ∷ [])
+unfolding written answered buffer-after over
+after = refl
+
+unchanged : buffer-after (answered Z 63) (written Z) (replicate 63 9) ≡ replicate 63 9
+unfolding answered buffer-after
+unchanged = refl

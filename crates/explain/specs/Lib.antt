@@ -1,0 +1,3 @@
+pub mod Explanation
+pub mod Answers
+pub mod Examples

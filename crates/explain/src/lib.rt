@@ -1,0 +1,4 @@
+// The verdict on a part in numbers, for a host program.
+pub mod answer;
+pub mod call;
+mod numbers;

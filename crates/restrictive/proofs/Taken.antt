@@ -1,0 +1,80 @@
+-- How many states are taken up, by the rule at which the search ends.
+use Prim.Native.Nat.{ℕ, suc, _≤_, _<_}
+use mathlib.Core.Path.{_≡_, refl, sym, ap, _∙_}
+use mathlib.Core.Bool.{Bool, cond}
+use mathlib.Core.List.{List}
+use mathlib.Core.Option.{Option, none, some}
+use native.Mathlib.Decide.{decLt}
+use native.Mathlib.Omega.{arith}
+use borrow.Author.Tests.{le-leb, lt-leb}
+use Rattle.bounded.specs.Search.{first}
+use Rattle.bounded.proofs.Search.{first-found, first-none, when-some}
+use Rattle.part.specs.Record.{Observer}
+use Rattle.relations.specs.Relations.{closure-sizes}
+use Rattle.restrictive.specs.declared.answer.Violation as code
+use Rattle.restrictive.specs.declared.answer.Found.{Found}
+use Rattle.restrictive.specs.declared.answer.Found.the-variants.{At, Nothing}
+use Rattle.restrictive.specs.Verdict.{Violation, violation-at, state-violation, event-violation, rule-violation}
+use Rattle.restrictive.specs.Verdict.{first-violation, by-rules, taken-by}
+use Rattle.restrictive.specs.Answers.{violation-of}
+use Rattle.restrictive.specs.Found.{found-of, FindingOf}
+use Rattle.restrictive.proofs.Scans.{found-first}
+
+module _ (b : List ℕ) (o : Observer) where
+  -- A violation of rule k + 1 has its number.
+  rule-of : (k : ℕ) (v : Violation) → rule-violation b o k ≡ some v → v .rule ≡ suc k
+  unfolding rule-violation event-violation state-violation violation-at
+  rule-of k v e =
+      let at-event = first-found _ _ v e in
+      let at-state = first-found _ _ v (at-event .found) in
+      let at-target = first-found _ _ v (at-state .found) in
+      let at-answer = first-found _ _ v (at-target .found) in
+      ap (λ (w : Violation). w .rule) (sym (when-some _ _ v (at-answer .found) .1))
+
+  -- After rules 1 to 3 the closures are taken up.
+  taken-late : first 3 (rule-violation b o) ≡ none → (sizes : ℕ)
+      → taken-by (by-rules (first-violation b o)) sizes ≡ sizes
+  unfolding first-violation by-rules taken-by
+  taken-late before sizes = go (first 5 (rule-violation b o)) refl
+    where
+      go : (f : Option Violation) → first 5 (rule-violation b o) ≡ f → taken-by (by-rules f) sizes ≡ sizes
+      go none e = refl
+      go (some v) e =
+          let found = first-found (rule-violation b o) 5 v e in
+          let late : 3 ≤ found .at = elim (decLt (found .at) 3) [
+            | yes l ↦ absurd (clash (sym (first-none _ 3 before (found .at) l) ∙ found .found))
+            | no l ↦ omega arith
+          ] in
+          let rule = rule-of (found .at) v (found .found) in
+          ap (λ (p : Bool). cond p sizes 0) (le-leb 4 (v .rule) (omega arith))
+        where
+          clash : {w : Violation} → none ≡ some w → ⊥
+          clash e = let z : _≡_ {A = ℕ} 0 1 = cc in omega arith
+
+  pub finds-late : {f : Found} {k : ℕ} → first 3 (rule-violation b o) ≡ none → found-of f ≡ first-violation b o
+      → k ≡ closure-sizes b (o .level) → FindingOf b o (record { found = f; taken = k })
+  finds-late before e size = record { found = e; taken = size ∙ sym (taken-late before _) }
+
+  -- A violation of one of these rules ends the search before.
+  pub finds-early : (k : ℕ) {f : Found} {v : code.Violation} → k < 3 → found-of f ≡ rule-violation b o k
+      → first k (rule-violation b o) ≡ none → f ≡ At v → FindingOf b o (record { found = f; taken = 0 })
+  unfolding first-violation found-of by-rules taken-by
+  finds-early k {f} {v} h seen before e =
+      let whole = found-first (rule-violation b o) k f seen before 5 v e (omega arith) in
+      let rule = rule-of k (violation-of v) (sym seen ∙ ap found-of e) in
+      record {
+        found = whole;
+        taken =
+            sym (ap (λ (w : Option Violation). taken-by (by-rules w) (closure-sizes b (o .level)))
+            (sym whole ∙ ap found-of e)
+            ∙ ap (λ (p : Bool). cond p (closure-sizes b (o .level)) 0) (lt-leb 4 (violation-of v .rule) (omega arith)));
+      }
+
+  -- Nothing is found.
+  pub finds-none : {k : ℕ} → first-violation b o ≡ none → k ≡ closure-sizes b (o .level)
+      → FindingOf b o (record { found = Nothing; taken = k })
+  unfolding found-of by-rules taken-by
+  finds-none e size = record {
+    found = sym e;
+    taken = size ∙ ap (λ (w : Option Violation). taken-by (by-rules w) (closure-sizes b (o .level))) (sym e);
+  }
