@@ -223,10 +223,6 @@ module _ (n : ℕ) (f : ℕ → Bool) where
       first-at _ n t
       (record { at = t; below = w .below; found = rw (w .passing); before = λ j l. rw (w .before j l) })
 
-  pub least-nothing : ((i : ℕ) → i < n → f i ≡ false) → least n f ≡ none
-  unfolding least when
-  least-nothing h = first-nothing _ n (λ i l. rw (h i l))
-
 -- ---- a loop that searches, written as its answer: found at i, or i has come to the bound
 module _ (f : ℕ → Bool) where
   pub scan-hit : (n i : ℕ) → i < n → f i ≡ true → true ≡ any n f

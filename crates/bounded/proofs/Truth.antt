@@ -2,8 +2,8 @@
 -- its parts say.
 use Prim.Native.Nat.{ℕ}
 use mathlib.Core.Path.{_≡_}
-use mathlib.Core.Bool.{Bool, true, false, not, _||_, _&&_}
-use mathlib.Core.Logic.{_↔_, _⊎_, inl, inr, ⊎-elim}
+use mathlib.Core.Bool.{Bool, true, false, not, _&&_}
+use mathlib.Core.Logic.{_↔_}
 use borrow.Author.Tests.{eq-eqb}
 use lib.Dec.{T, T-not, not-T, eqb, eqb→eq}
 use Rattle.bounded.specs.Search.{Below, any}
@@ -11,10 +11,6 @@ use Rattle.bounded.proofs.Search.{any-at, any-found, passed, passes}
 
 pub eqb-iff : (m n : ℕ) → T (eqb m n) ↔ (m ≡ n)
 eqb-iff m n = (eqb→eq m n, λ e. passes (eq-eqb m n e))
-
-pub or-iff : {A B : Type 0} (a b : Bool) → T a ↔ A → T b ↔ B → T (a || b) ↔ (A ⊎ B)
-or-iff true b p q = (λ t. inl (p .0 tt), λ w. tt)
-or-iff false b p q = (λ t. inr (q .0 t), ⊎-elim (λ x. absurd (p .1 x)) (q .1))
 
 pub and-iff : {A B : Type 0} (a b : Bool) → T a ↔ A → T b ↔ B → T (a && b) ↔ (A × B)
 and-iff true b p q = (λ t. (p .0 tt, q .0 t), λ w. q .1 (w .1))
