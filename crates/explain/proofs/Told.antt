@@ -1,50 +1,60 @@
--- The answer of the call and the buffer after it, where there is something to explain.
+-- The answer of the call and the buffer after it, where eight numbers explain the verdict; and what an answered break is.
 use Prim.Native.Nat.{ℕ}
-use mathlib.Core.Path.{_≡_, refl, sym, ap, _∙_}
+use mathlib.Core.Path.{_≡_, refl, ap, _∙_}
 use mathlib.Core.Bool.{Bool, true, false, cond}
-use mathlib.Core.List.{List}
+use mathlib.Core.List.{List, [], _∷_}
 use native.Mathlib.Omega.{arith}
+use borrow.Author.Tests.{le-ltb}
 use lib.Dec.{ltb}
-use lib.ListN.{length}
+use lib.ListN.{length, getD}
+use Rattle.bounded.specs.Search.{each}
 use Rattle.words.specs.Laid.{over}
+use Rattle.words.specs.LittleEndian.{digits}
+use Rattle.words.proofs.LittleEndian.{length-digits, length-each}
 use Rattle.part.specs.Record.{observer}
 use Rattle.restrictive.specs.Verdict.{Violation, Verdict, pass, refused, breaks, verdict, taken}
-use Rattle.explain.specs.Explanation.{numbers, as-bytes, explanation, explained, buffer-after}
+use Rattle.explain.specs.Explanation.{numbers, as-bytes, explanation, no-room, explained, buffer-after}
 
--- v is a verdict that is explained.
-module _ (b out : List ℕ) (v : Verdict)
-    (answered : explained v (length out) ≡ cond (ltb (length out) 64) (refused 15) v)
-    (written : buffer-after v (explanation b) out ≡ over out 0 (explanation b)) where
-  abbrev short : Bool
-  short = ltb (length out) 64
+abbrev bytes : List ℕ → List ℕ
+bytes xs = each 8 (λ i. digits 8 (getD xs i 0))
 
-  pub told : {answer : Verdict} {after : List ℕ} {k l : ℕ} → verdict b ≡ v → k ≡ taken b → l ≡ observer b
-      → answer ≡ cond short (refused 15) v
-      → after ≡ cond short out (over out 0 (as-bytes (numbers v k l)))
-      → (answer ≡ explained (verdict b) (length out)) × (after ≡ buffer-after answer (explanation b) out)
-  unfolding buffer-after explanation
-  told {answer} {after} {k} {l} e p q a w =
-      (a ∙ sym answered ∙ ap (λ (v : Verdict). explained v (length out)) (sym e), go short refl)
-    where
-      go : (s : Bool) → short ≡ s → after ≡ buffer-after answer (explanation b) out
-      go true h =
-          let none : answer ≡ refused 15 = a ∙ rw h refl in
-          w ∙ rw (h, none) refl
-      go false h =
-          let all : answer ≡ v = a ∙ rw h refl in
-          w ∙ rw (h, p, q, all) (rw (sym e) refl ∙ sym written)
+pub told : (b out xs : List ℕ) {v answer : Verdict} {after : List ℕ} → verdict b ≡ v → explanation b ≡ bytes xs
+    → answer ≡ cond (ltb (length out) 64) (refused 15) v
+    → after ≡ cond (ltb (length out) 64) out (over out 0 (bytes xs))
+    → (answer ≡ explained b (length out)) × (after ≡ buffer-after b out)
+unfolding explained buffer-after no-room
+told b out xs e f a w =
+    let size : length (explanation b) ≡ 64 =
+    ap length f ∙ length-each 8 8 (λ i. digits 8 (getD xs i 0)) (λ i l. length-digits 8 _) in
+    (a ∙ rw (size, e) refl, w ∙ rw (size, f) refl)
+
+-- The numbers of a break and of a pass; a refusal has none.
+of-verdict : (b : List ℕ) {v : Verdict} → verdict b ≡ v → explanation b ≡ as-bytes (numbers v (taken b) (observer b))
+unfolding explanation
+of-verdict b e = rw e
+
+pub of-break : (b : List ℕ) {v : Violation} {k l : ℕ} → verdict b ≡ breaks v → k ≡ taken b → l ≡ observer b
+    → explanation b ≡ bytes (v .rule ∷ v .event ∷ v .s ∷ v .t ∷ v .u ∷ k ∷ l ∷ 0 ∷ [])
+unfolding numbers as-bytes each
+of-break b e p q = of-verdict b e ∙ rw (← p, ← q) refl
+
+pub of-pass : (b : List ℕ) {k : ℕ} → verdict b ≡ pass → k ≡ taken b
+    → explanation b ≡ bytes (0 ∷ 0 ∷ 0 ∷ 0 ∷ 0 ∷ k ∷ 0 ∷ 1 ∷ [])
+unfolding numbers as-bytes each
+of-pass b e p = of-verdict b e ∙ rw (← p) refl
+
+pub told-refused : (b out : List ℕ) {k : ℕ} {answer : Verdict} → verdict b ≡ refused k → answer ≡ refused k
+    → (answer ≡ explained b (length out)) × (out ≡ buffer-after b out)
+unfolding explained buffer-after no-room numbers as-bytes each over
+told-refused b out e a =
+    let none = of-verdict b e in
+    (rw (none, e, le-ltb (length out) 0 (omega arith)) a, rw (none, le-ltb (length out) 0 (omega arith)) refl)
 
 -- A break that is answered is the record's own.
-pub explained-breaks : (v : Verdict) (room : ℕ) {w : Violation} → explained v room ≡ breaks w → v ≡ breaks w
+pub explained-breaks : (b : List ℕ) (room : ℕ) {w : Violation} → explained b room ≡ breaks w → verdict b ≡ breaks w
 unfolding explained
-explained-breaks (refused k) room e = e
-explained-breaks pass room e = go (ltb room 64) e
+explained-breaks b room e = go (no-room b room) e
   where
-    go : (s : Bool) {w : Violation} → cond s (refused 15) pass ≡ breaks w → pass ≡ breaks w
-    go true e = let z : _≡_ {A = ℕ} 0 1 = cc in absurd (omega arith)
-    go false e = e
-explained-breaks (breaks v) room e = go (ltb room 64) e
-  where
-    go : (s : Bool) {w : Violation} → cond s (refused 15) (breaks v) ≡ breaks w → breaks v ≡ breaks w
+    go : (s : Bool) {w : Violation} → cond s (refused 15) (verdict b) ≡ breaks w → verdict b ≡ breaks w
     go true e = let z : _≡_ {A = ℕ} 0 1 = cc in absurd (omega arith)
     go false e = e

@@ -9,16 +9,20 @@ use Rattle.words.specs.LittleEndian.{digits}
 use Rattle.part.specs.Samples.{P, Z, T}
 use Rattle.restrictive.specs.Verdict.{Verdict, refused}
 use Rattle.restrictive.specs.Judged.{judged, counted, broken-at}
-use Rattle.explain.specs.Explanation.{numbers, as-bytes, explanation, explained, buffer-after}
+use Rattle.explain.specs.Explanation.{numbers, as-bytes, explanation, no-room, explained, buffer-after}
 
--- The explanation and the answer, as they compute.
+-- The explanation, the answer and the buffer afterwards, as they compute.
 written : List ℕ → List ℕ
 unfolding judged counted explanation numbers as-bytes each digits
 written b = explanation b
 
 answered : List ℕ → ℕ → Verdict
-unfolding judged explained
-answered b room = explained (judged b) room
+unfolding written explained no-room
+answered b room = explained b room
+
+left : List ℕ → List ℕ → List ℕ
+unfolding answered buffer-after over
+left b out = buffer-after b out
 
 -- T with a silent step from 0 to 2, for an observer of this level: rule 4 is broken by event 1 at 0, 2 and 1. The closure of 0 has two
 -- states.
@@ -52,11 +56,15 @@ refusal-first : answered [] 0 ≡ refused 1
 unfolding answered
 refusal-first = refl
 
--- Later bytes stay, and all do where the call is refused.
-after : buffer-after (answered Z 65) (written Z) (replicate 65 9) ≡ as-bytes (0 ∷ 0 ∷ 0 ∷ 0 ∷ 0 ∷ 1 ∷ 0 ∷ 1 ∷ []) ++ (9 ∷ [])
-unfolding written answered buffer-after over
+-- Later bytes stay, and all do where the call is refused: a short buffer, or bytes that are no record.
+after : left Z (replicate 65 9) ≡ as-bytes (0 ∷ 0 ∷ 0 ∷ 0 ∷ 0 ∷ 1 ∷ 0 ∷ 1 ∷ []) ++ (9 ∷ [])
+unfolding left
 after = refl
 
-unchanged : buffer-after (answered Z 63) (written Z) (replicate 63 9) ≡ replicate 63 9
-unfolding answered buffer-after
+unchanged : left Z (replicate 63 9) ≡ replicate 63 9
+unfolding left
 unchanged = refl
+
+unwritten : left [] (replicate 64 9) ≡ replicate 64 9
+unfolding left
+unwritten = refl

@@ -6,7 +6,7 @@ ghost use Rattle.restrictive.specs.Verdict.{Violation, breaks, verdict};
 ghost use Rattle.restrictive.specs.Answers.{verdict-of};
 ghost use Rattle.closure.specs.Closures as closures;
 ghost use Rattle.explain.specs.Explanation as explanations;
-ghost use Rattle.explain.specs.Explanation.{explanation, explained};
+ghost use Rattle.explain.specs.Explanation.{explained};
 ghost use Rattle.composite.specs.Joined.{joined};
 ghost use Rattle.composite.specs.Joining.{joining, buffer-after};
 ghost use Rattle.composite.specs.Answers.{side-of, obstacle-of};
@@ -97,8 +97,8 @@ pub extern "C" fn hookup_closure(bytes: &[u8], out: &mut [u8]) -> u32
 // What hookup_check answers, with the verdict in numbers at the start of out; 15 where these have no room.
 #[no_mangle]
 pub extern "C" fn hookup_explain(bytes: &[u8], out: &mut [u8]) -> u32
-    ensures { λ k. ⌜ k ≡ check-number (explained (verdict (now (bytes .entry))) (length (now (out .entry)))) ⌝ }
-    ensures { λ k. ⌜ now (out .exit) ≡ explanations.buffer-after (explained (verdict (now (bytes .entry))) (length (now (out .entry)))) (explanation (now (bytes .entry))) (now (out .entry)) ⌝ }
+    ensures { λ k. ⌜ k ≡ check-number (explained (now (bytes .entry)) (length (now (out .entry)))) ⌝ }
+    ensures { λ k. ⌜ now (out .exit) ≡ explanations.buffer-after (now (bytes .entry)) (now (out .entry)) ⌝ }
 {
     let answer = explain(bytes, out);
     match answer {

@@ -1,12 +1,14 @@
 -- How many states are taken up, by the rule at which the search ends.
 use Prim.Native.Nat.{ℕ, suc, _≤_, _<_}
 use mathlib.Core.Path.{_≡_, refl, sym, ap, _∙_}
-use mathlib.Core.Bool.{Bool, cond}
+use mathlib.Core.Bool.{or-true}
 use mathlib.Core.List.{List}
 use mathlib.Core.Option.{Option, none, some}
-use native.Mathlib.Decide.{decLt}
+use mathlib.Core.Logic.{_⊎_, inl, inr, ⊎-elim}
+use native.Mathlib.Decide.{decLt, ℕ-discrete}
 use native.Mathlib.Omega.{arith}
-use borrow.Author.Tests.{le-leb, lt-leb}
+use borrow.Author.Tests.{eq-eqb, ne-eqb}
+use lib.Dec.{eqb}
 use Rattle.bounded.specs.Search.{first}
 use Rattle.bounded.proofs.Search.{first-found, first-none, when-some}
 use Rattle.part.specs.Record.{Observer}
@@ -15,10 +17,21 @@ use Rattle.restrictive.specs.declared.answer.Violation as code
 use Rattle.restrictive.specs.declared.answer.Found.{Found}
 use Rattle.restrictive.specs.declared.answer.Found.the-variants.{At, Nothing}
 use Rattle.restrictive.specs.Verdict.{Violation, violation-at, state-violation, event-violation, rule-violation}
-use Rattle.restrictive.specs.Verdict.{first-violation, by-rules, taken-by}
+use Rattle.restrictive.specs.Verdict.{breaks, first-violation, by-rules, taken-by}
 use Rattle.restrictive.specs.Answers.{violation-of}
 use Rattle.restrictive.specs.Found.{found-of, FindingOf}
 use Rattle.restrictive.proofs.Scans.{found-first}
+
+-- A break of rule 4 or 5, and of another rule.
+module _ (v : Violation) (sizes : ℕ) where
+  pub taken-all : (v .rule ≡ 4) ⊎ (v .rule ≡ 5) → taken-by (breaks v) sizes ≡ sizes
+  unfolding taken-by
+  taken-all (inl e) = rw (eq-eqb (v .rule) 4 e)
+  taken-all (inr e) = rw (eq-eqb (v .rule) 5 e, or-true (eqb (v .rule) 4))
+
+  pub taken-none : ((v .rule ≡ 4) ⊎ (v .rule ≡ 5) → ⊥) → taken-by (breaks v) sizes ≡ 0
+  unfolding taken-by
+  taken-none other = rw (ne-eqb (v .rule) 4 (λ e. other (inl e)), ne-eqb (v .rule) 5 (λ e. other (inr e)))
 
 module _ (b : List ℕ) (o : Observer) where
   -- A violation of rule k + 1 has its number.
@@ -46,7 +59,10 @@ module _ (b : List ℕ) (o : Observer) where
             | no l ↦ omega arith
           ] in
           let rule = rule-of (found .at) v (found .found) in
-          ap (λ (p : Bool). cond p sizes 0) (le-leb 4 (v .rule) (omega arith))
+          taken-all v sizes (elim (ℕ-discrete (found .at) 3) [
+            | yes q ↦ inl (omega arith)
+            | no q ↦ inr (omega (arith, found .below))
+          ])
         where
           clash : {w : Violation} → none ≡ some w → ⊥
           clash e = let z : _≡_ {A = ℕ} 0 1 = cc in omega arith
@@ -67,7 +83,7 @@ module _ (b : List ℕ) (o : Observer) where
         taken =
             sym (ap (λ (w : Option Violation). taken-by (by-rules w) (closure-sizes b (o .level)))
             (sym whole ∙ ap found-of e)
-            ∙ ap (λ (p : Bool). cond p (closure-sizes b (o .level)) 0) (lt-leb 4 (violation-of v .rule) (omega arith)));
+            ∙ taken-none (violation-of v) _ (⊎-elim (λ q. omega arith) (λ q. omega arith)));
       }
 
   -- Nothing is found.

@@ -1,14 +1,11 @@
 -- The verdict of a record is what its machine is: the statements of specs/Theorems.antt.
 use Prim.Native.Nat.{ℕ, zero, suc, _*_, _≤_, _<_}
 use mathlib.Core.Path.{_≡_, refl, sym, ap, _∙_, subst}
-use mathlib.Core.Bool.{Bool, cond}
 use mathlib.Core.List.{List, [], _∷_}
 use mathlib.Core.Option.{Option, none, some}
 use mathlib.Core.Logic.{_↔_, _⊎_, inl, inr, ⊎-elim}
 use native.Mathlib.Decide.{ℕ-discrete}
 use native.Mathlib.Omega.{arith}
-use borrow.Author.Tests.{le-leb, leb-true}
-use lib.Dec.{leb}
 use Rattle.bounded.proofs.Search.{true-or-false, count-le, count-some, total-same, total-within}
 use Rattle.bounded.proofs.Paths.{length-visits}
 use Rattle.machine.specs.Rules.{Rule, rule-1, rule-2, rule-3, rule-4, rule-5, Restrictive}
@@ -44,6 +41,7 @@ use Rattle.restrictive.specs.Theorems.{
 }
 use Rattle.bounded.specs.Search.{Below, count, total}
 use Rattle.bounded.proofs.Truth.{not-not}
+use Rattle.restrictive.proofs.Taken.{taken-all, taken-none}
 use Rattle.restrictive.proofs.Reflect.{answers-iff, broken-iff, asked-placed}
 use Rattle.restrictive.proofs.First.{Finds, finds-as, IsViolation, finds-violation}
 
@@ -240,9 +238,7 @@ module _ (b : List ℕ) where
   unfolding taken taken-by
   takes-all (passing e) = ap (λ (v : Verdict). taken-by v (closure-sizes b (observer b))) e
   takes-all (breaking v e late) =
-      ap (λ (v : Verdict). taken-by v (closure-sizes b (observer b))) e
-      ∙ ap (λ (p : Bool). cond p (closure-sizes b (observer b)) 0)
-      (le-leb 4 (v .rule) (⊎-elim (λ q. omega arith) (λ q. omega arith) late))
+      ap (λ (v : Verdict). taken-by v (closure-sizes b (observer b))) e ∙ taken-all v _ late
 
   -- It takes them up, or nothing.
   takes-or-not : TakesUp b ⊎ (taken b ≡ 0)
@@ -253,13 +249,13 @@ module _ (b : List ℕ) where
       go pass e = inl (passing e)
       go (refused k) e = inr (rw e)
       go (breaks v) e =
-          ⊎-elim
-          (λ late.
-          let h = leb-true 4 (v .rule) late in
-          let l = break-rule b v e in
-          inl (breaking v e (elim (ℕ-discrete (v .rule) 4) [ yes q ↦ inl q | no q ↦ inr (omega arith) ])))
-          (λ early. inr (rw e (ap (λ (p : Bool). cond p (closure-sizes b (observer b)) 0) early)))
-          (true-or-false (leb 4 (v .rule)))
+          elim (ℕ-discrete (v .rule) 4) [
+            | yes q ↦ inl (breaking v e (inl q))
+            | no d ↦ elim (ℕ-discrete (v .rule) 5) [
+              | yes q ↦ inl (breaking v e (inr q))
+              | no f ↦ inr (rw e (taken-none v _ (⊎-elim d f)))
+            ]
+          ]
 
   -- Then there is a state.
   taking-accepted : TakesUp b → 1 ≤ states b

@@ -1,10 +1,10 @@
 -- The verdict of Check on a record (document 01, "The five rules" and "Order"): the rejections, then the first violation by rule, event,
 -- s, t, u, each ascending. And how many states it takes up (document 02, f).
 use Prim.Native.Nat.{ℕ, suc}
-use mathlib.Core.Bool.{cond}
+use mathlib.Core.Bool.{_||_, cond}
 use mathlib.Core.List.{List}
 use mathlib.Core.Option.{Option, none, some}
-use lib.Dec.{leb}
+use lib.Dec.{eqb}
 use Rattle.bounded.specs.Search.{first, when}
 use Rattle.part.specs.Record.{observer, states, events, identifier, Observer, observer-of}
 use Rattle.part.specs.Rejections.{rejection}
@@ -59,7 +59,7 @@ verdict b = after-rejection (rejection b) b
 unfoldable pub taken-by : Verdict → ℕ → ℕ
 taken-by pass sizes = sizes
 taken-by (refused k) sizes = 0
-taken-by (breaks v) sizes = cond (leb 4 (v .rule)) sizes 0
+taken-by (breaks v) sizes = cond (eqb (v .rule) 4 || eqb (v .rule) 5) sizes 0
 
 unfoldable pub taken : List ℕ → ℕ
 taken b = taken-by (verdict b) (closure-sizes b (observer b))

@@ -52,65 +52,48 @@ bit-full (suc k) (suc t) h =
 
 -- ---- membership after each operation
 
-or-digit : (p q : ℕ) → p < 2 → q < 2 → eqb (max p q) 1 ≡ (eqb p 1 || eqb q 1)
-or-digit zero zero hp hq = refl
-or-digit zero (suc zero) hp hq = refl
-or-digit (suc zero) zero hp hq = refl
-or-digit (suc zero) (suc zero) hp hq = refl
-or-digit (suc (suc p)) q hp hq = absurd (omega arith)
-or-digit zero (suc (suc q)) hp hq = absurd (omega arith)
-or-digit (suc zero) (suc (suc q)) hp hq = absurd (omega arith)
+-- What holds of the digits 0 and 1, two at a time, holds of all digits.
+digits-all : (P : ℕ → ℕ → Type 0) → P 0 0 → P 0 1 → P 1 0 → P 1 1 → (p q : ℕ) → p < 2 → q < 2 → P p q
+digits-all P a b c d zero zero hp hq = a
+digits-all P a b c d zero (suc zero) hp hq = b
+digits-all P a b c d (suc zero) zero hp hq = c
+digits-all P a b c d (suc zero) (suc zero) hp hq = d
+digits-all P a b c d (suc (suc p)) q hp hq = absurd (omega arith)
+digits-all P a b c d zero (suc (suc q)) hp hq = absurd (omega arith)
+digits-all P a b c d (suc zero) (suc (suc q)) hp hq = absurd (omega arith)
 
-and-digit : (p q : ℕ) → p < 2 → q < 2 → eqb (min p q) 1 ≡ (eqb p 1 && eqb q 1)
-and-digit zero zero hp hq = refl
-and-digit zero (suc zero) hp hq = refl
-and-digit (suc zero) zero hp hq = refl
-and-digit (suc zero) (suc zero) hp hq = refl
-and-digit (suc (suc p)) q hp hq = absurd (omega arith)
-and-digit zero (suc (suc q)) hp hq = absurd (omega arith)
-and-digit (suc zero) (suc (suc q)) hp hq = absurd (omega arith)
+-- An operation that goes digit by digit, and a test that says of each pair of digits what it gives.
+module _ (op digitwise : ℕ → ℕ → ℕ) (test : Bool → Bool → Bool)
+    (shifted : (x y k : ℕ) → op x y / 2 ^ k ≡ op (x / 2 ^ k) (y / 2 ^ k))
+    (step : (x y : ℕ) → op x y ≡ op (x / 2) (y / 2) * 2 + digitwise (x % 2) (y % 2)) where
+  abbrev Told : ℕ → ℕ → Type 0
+  Told p q = (digitwise p q < 2) × (eqb (digitwise p q) 1 ≡ test (eqb p 1) (eqb q 1))
 
-differ-digit : (p q : ℕ) → p < 2 → q < 2 → eqb (differ p q) 1 ≡ cond (eqb q 1) (not (eqb p 1)) (eqb p 1)
-differ-digit zero zero hp hq = refl
-differ-digit zero (suc zero) hp hq = refl
-differ-digit (suc zero) zero hp hq = refl
-differ-digit (suc zero) (suc zero) hp hq = refl
-differ-digit (suc (suc p)) q hp hq = absurd (omega arith)
-differ-digit zero (suc (suc q)) hp hq = absurd (omega arith)
-differ-digit (suc zero) (suc (suc q)) hp hq = absurd (omega arith)
+  bit-by : Told 0 0 → Told 0 1 → Told 1 0 → Told 1 1 → (x y t : ℕ) → bit (op x y) t ≡ test (bit x t) (bit y t)
+  unfolding bit
+  bit-by p q r s x y t =
+      let a = x / 2 ^ t in
+      let b = y / 2 ^ t in
+      let (small, told) = digits-all Told p q r s (a % 2) (b % 2) (digit a) (digit b) in
+      ap (λ (z : ℕ). eqb (z % 2) 1) (shifted x y t ∙ step a b)
+      ∙ ap (λ (z : ℕ). eqb z 1) (digits-mod (op (a / 2) (b / 2)) small)
+      ∙ told
 
 pub bit-union : (x y t : ℕ) → bit (union x y) t ≡ (bit x t || bit y t)
-unfolding bit union
-bit-union x y t =
-    let a = x / 2 ^ t in
-    let b = y / 2 ^ t in
-    ap (λ (z : ℕ). eqb (z % 2) 1) (or-shr x y t ∙ or-step a b)
-    ∙ ap (λ (z : ℕ). eqb z 1) (digits-mod (bitOr (a / 2) (b / 2)) (omega (arith, digit a, digit b)))
-    ∙ or-digit _ _ (digit a) (digit b)
+unfolding union
+bit-union =
+    bit-by bitOr max _||_ or-shr or-step (omega arith, refl) (omega arith, refl) (omega arith, refl) (omega arith, refl)
 
 pub bit-intersection : (x y t : ℕ) → bit (intersection x y) t ≡ (bit x t && bit y t)
-unfolding bit intersection
-bit-intersection x y t =
-    let a = x / 2 ^ t in
-    let b = y / 2 ^ t in
-    ap (λ (z : ℕ). eqb (z % 2) 1) (and-shr x y t ∙ and-step a b)
-    ∙ ap (λ (z : ℕ). eqb z 1) (digits-mod (bitAnd (a / 2) (b / 2)) (omega (arith, digit a, digit b)))
-    ∙ and-digit _ _ (digit a) (digit b)
+unfolding intersection
+bit-intersection =
+    bit-by bitAnd min _&&_ and-shr and-step (omega arith, refl) (omega arith, refl) (omega arith, refl)
+    (omega arith, refl)
 
 bit-xor : (x y t : ℕ) → bit (bitXor x y) t ≡ cond (bit y t) (not (bit x t)) (bit x t)
-unfolding bit
-bit-xor x y t =
-    let a = x / 2 ^ t in
-    let b = y / 2 ^ t in
-    ap (λ (z : ℕ). eqb (z % 2) 1) (xor-shr x y t ∙ xor-step a b)
-    ∙ ap (λ (z : ℕ). eqb z 1) (digits-mod (bitXor (a / 2) (b / 2)) (differ-lt _ _ (digit a) (digit b)))
-    ∙ differ-digit _ _ (digit a) (digit b)
-  where
-    differ-lt : (p q : ℕ) → p < 2 → q < 2 → differ p q < 2
-    differ-lt zero q hp hq = hq
-    differ-lt (suc p) zero hp hq = hp
-    differ-lt (suc zero) (suc q) hp hq = omega arith
-    differ-lt (suc (suc p)) (suc q) hp hq = absurd (omega arith)
+bit-xor =
+    bit-by bitXor differ (λ p q. cond q (not p) p) xor-shr xor-step (omega arith, refl) (omega arith, refl)
+    (omega arith, refl) (omega arith, refl)
 
 pub bit-difference : (x y t : ℕ) → bit (difference x y) t ≡ (bit x t && not (bit y t))
 unfolding difference intersection

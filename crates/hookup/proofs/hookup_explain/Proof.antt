@@ -1,11 +1,9 @@
-use mathlib.Core.Path.{refl, sym, ap, _∙_}
+use mathlib.Core.Path.{sym, ap, _∙_}
 use borrow.Author.Needs.{needs}
 use Rattle.restrictive.proofs.Theorems.{break-rule}
-use Rattle.explain.specs.Explanation.{buffer-after}
 use Rattle.explain.specs.Answers.{explaining-of}
 use Rattle.explain.proofs.Told.{explained-breaks}
 use Rattle.hookup.specs.Numbers.{check-number}
-use Rattle.hookup.proofs.Numbered.{told}
 use Rattle.hookup.proofs.hookup_explain.Statement.{statement}
 use Rattle.hookup.proofs.hookup_explain.Tie as tie
 
@@ -30,16 +28,18 @@ same-length c = search needs
 
 returns : tie.Need-returns
 unfolding explaining-of
-returns c = told explaining-of check-number buffer-after _ _ (c .before .before .answer .given .1)
-    (c .before .before .before .before .before .before .explain .ensures) (c .check-number .ensures .0)
+returns c =
+    let (answer, after) = c .before .before .before .before .before .before .explain .ensures in
+    (c .check-number .ensures .0 ∙ ap check-number (sym (ap explaining-of (c .before .before .answer .given .1)) ∙ answer), after)
 
 same-length-2 : tie.Need-same-length-2
 same-length-2 c = search needs
 
 returns-2 : tie.Need-returns-2
 unfolding explaining-of check-number
-returns-2 c = told explaining-of check-number buffer-after _ _ (c .enum-told .given .1)
-    (c .before .before .before .before .explain .ensures) refl
+returns-2 c =
+    let (answer, after) = c .before .before .before .before .explain .ensures in
+    (ap check-number (sym (ap explaining-of (c .enum-told .given .1)) ∙ answer), after)
 
 pub hookup-explain-spec : {M : Type 1} → statement M
 hookup-explain-spec = tie.close (tie.spec explain-requires enum-known-answer check-number-requires enum-told same-length

@@ -1,14 +1,13 @@
-use mathlib.Core.Path.{_≡_, refl, sym, ap, _∙_}
+use mathlib.Core.Path.{_≡_, sym, ap, _∙_}
+use mathlib.Core.List.{[], _∷_}
 use native.Mathlib.Omega.{arith}
 use borrow.Author.Needs.{needs}
-use lib.ListN.{length}
 use Rattle.part.proofs.Ranges.{frame}
-use Rattle.restrictive.specs.Verdict.{Verdict, pass, breaks, verdict}
+use Rattle.restrictive.specs.Verdict.{breaks, verdict}
 use Rattle.restrictive.specs.Answers.{violation-of, verdict-of}
-use Rattle.restrictive.proofs.Theorems.{passes-exactly, breaks-exactly}
-use Rattle.explain.specs.Explanation.{explained, buffer-after}
+use Rattle.restrictive.proofs.Theorems.{breaks-exactly}
 use Rattle.explain.specs.Answers.{explaining-of}
-use Rattle.explain.proofs.Told.{told}
+use Rattle.explain.proofs.Told.{told, told-refused, of-break, of-pass}
 use Rattle.explain.proofs.call.explain.Statement.{statement}
 use Rattle.explain.proofs.call.explain.Tie as tie
 
@@ -19,29 +18,25 @@ enum-told : tie.Need-enum-told
 enum-told c = search needs
 
 returns : tie.Need-returns
-unfolding explaining-of verdict-of explained buffer-after
+unfolding explaining-of verdict-of
 returns c =
-    let room = length (c .before .before .before .before .before .args .out .now) in
     let refusing = ap verdict-of (c .enum-told .given .1) in
-    let seen = sym (c .before .before .check .ensures .verdict) ∙ refusing in
-    (refusing ∙ sym (ap (λ (v : Verdict). explained v room) seen), rw refusing refl)
+    told-refused _ _ (sym (c .before .before .check .ensures .verdict) ∙ refusing) refusing
 
-enum-told-2 : tie.Need-enum-told-2
-enum-told-2 c = search needs
+enum-known-verdict : tie.Need-enum-known-verdict
+enum-known-verdict c = search needs
 
--- the part breaks a rule, or passes
-breaking : (c : tie.After-enum-told2) → verdict (c .before .before .before .before .before .args .bytes .now)
-    ≡ breaks (violation-of (c .enum-told2 .given .0 .0))
+breaking : (c : tie.After-verdict) → verdict (c .before .before .before .before .before .args .bytes .now)
+    ≡ breaks (violation-of (c .verdict .given .0 .0))
 unfolding verdict-of
-breaking c = sym (c .before .before .check .ensures .verdict) ∙ ap verdict-of (c .enum-told2 .given .1)
-
-passing : (c : tie.After-enum-told3) → verdict (c .before .before .before .before .before .args .bytes .now) ≡ pass
-unfolding verdict-of
-passing c = sym (c .before .before .check .ensures .verdict) ∙ ap verdict-of (c .enum-told3 .given .1)
+breaking c = sym (c .before .before .check .ensures .verdict) ∙ ap verdict-of (c .verdict .given .1)
 
 observer-requires : tie.Need-observer-requires
 observer-requires c κs =
     let f = frame _ (breaks-exactly _ _ .0 (breaking (c .before)) .0) .whole in omega arith
+
+cast-level : tie.Need-cast-level
+cast-level c = search needs
 
 tell-requires : tie.Need-tell-requires
 tell-requires c κs = search needs
@@ -50,21 +45,21 @@ same-length : tie.Need-same-length
 same-length c = search needs
 
 returns-2 : tie.Need-returns-2
-unfolding explained buffer-after
+unfolding verdict-of violation-of
 returns-2 c =
     let tell = c .before .before in
-    let branch = tell .before .before .before in
+    let level = tell .before .before .before in
+    let branch = level .before .before in
     let report = branch .before .before .check in
-    let v = sym (report .ensures .verdict) in
-    let this = sym v ∙ breaking branch in
-    told _ _ _ (rw this refl) (rw this refl) v (report .ensures .taken) (tell .before .observer .ensures)
-    (tell .tell .ensures .0) (tell .tell .ensures .1)
+    let w = branch .verdict .given .0 .0 in
+    let numbers =
+    w .rule ∷ w .event ∷ w .s ∷ w .t ∷ w .u ∷ report .result .taken ∷ level .observer .result ∷ 0 ∷ [] in
+    told _ _ numbers (breaking branch)
+    (of-break _ (breaking branch) (report .ensures .taken) (level .observer .ensures)) (tell .tell .ensures .0)
+    (tell .tell .ensures .1)
 
-enum-told-3 : tie.Need-enum-told-3
-enum-told-3 c = search needs
-
-observer-requires-2 : tie.Need-observer-requires-2
-observer-requires-2 c κs = let f = frame _ (passes-exactly _ .0 (passing (c .before)) .0) .whole in omega arith
+enum-told-2 : tie.Need-enum-told-2
+enum-told-2 c = search needs
 
 tell-requires-2 : tie.Need-tell-requires-2
 tell-requires-2 c κs = search needs
@@ -73,16 +68,15 @@ same-length-2 : tie.Need-same-length-2
 same-length-2 c = search needs
 
 returns-3 : tie.Need-returns-3
-unfolding explained buffer-after
+unfolding verdict-of
 returns-3 c =
     let tell = c .before .before in
     let branch = tell .before .before .before in
     let report = branch .before .before .check in
-    let v = sym (report .ensures .verdict) in
-    let this = sym v ∙ passing branch in
-    told _ _ _ (rw this refl) (rw this refl) v (report .ensures .taken) (tell .before .observer2 .ensures)
-    (tell .tell2 .ensures .0) (tell .tell2 .ensures .1)
+    let passing = sym (report .ensures .verdict) ∙ ap verdict-of (branch .enum-told2 .given .1) in
+    told _ _ (0 ∷ 0 ∷ 0 ∷ 0 ∷ 0 ∷ report .result .taken ∷ 0 ∷ 1 ∷ []) (sym (report .ensures .verdict))
+    (of-pass _ passing (report .ensures .taken)) (tell .tell2 .ensures .0) (tell .tell2 .ensures .1)
 
 pub explain-spec : {M : Type 1} → statement M
-explain-spec = tie.close (tie.spec check-requires enum-told enum-told-2 observer-requires tell-requires enum-told-3
-    observer-requires-2 tell-requires-2 returns same-length returns-2 same-length-2 returns-3)
+explain-spec = tie.close (tie.spec check-requires enum-told enum-known-verdict observer-requires cast-level tell-requires
+    enum-told-2 tell-requires-2 returns same-length returns-2 same-length-2 returns-3)

@@ -1,4 +1,4 @@
-use mathlib.Core.Path.{refl, _∙_}
+use mathlib.Core.Path.{refl}
 use native.Mathlib.Omega.{arith}
 use borrow.Author.Needs.{needs}
 use borrow.Author.Tests.{lt-ltb, le-ltb}
@@ -13,11 +13,8 @@ returns c =
     let short = lt-ltb (length (c .before .before .args .out .now)) 64 (omega (arith, c .if1 .taken)) in
     (rw short refl, rw short refl)
 
-numbers-requires : tie.Need-numbers-requires
-numbers-requires c κs = search needs
-
 put-numbers-requires : tie.Need-put-numbers-requires
-put-numbers-requires c κs = omega (arith, c .before .before .before .if1 .left)
+put-numbers-requires c κs = omega (arith, c .before .if1 .left)
 
 same-length : tie.Need-same-length
 same-length c = search needs
@@ -26,10 +23,9 @@ returns-2 : tie.Need-returns-2
 unfolding explaining-of
 returns-2 c =
     let put = c .before .before in
-    let made = put .before .before .before in
-    let test = made .before in
+    let test = put .before .before in
     let room = le-ltb (length (test .before .before .args .out .now)) 64 (omega (arith, test .if1 .left)) in
-    (rw room refl, rw room (put .put-numbers .ensures ∙ rw (made .numbers .ensures) refl))
+    (rw room refl, rw room (put .put-numbers .ensures))
 
 pub tell-spec : {M : Type 1} → statement M
-tell-spec = tie.close (tie.spec returns numbers-requires put-numbers-requires same-length returns-2)
+tell-spec = tie.close (tie.spec returns put-numbers-requires same-length returns-2)

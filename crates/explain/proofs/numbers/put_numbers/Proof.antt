@@ -8,7 +8,6 @@ use Rattle.words.specs.Laid.{over}
 use Rattle.words.specs.LittleEndian.{digits}
 use Rattle.words.proofs.LaidLaws.{length-over, nothing-laid, piece-turn}
 use Rattle.words.proofs.LittleEndian.{length-digits}
-use Rattle.explain.specs.Explanation.{as-bytes}
 use Rattle.explain.proofs.numbers.put_numbers.Statement.{statement}
 use Rattle.explain.proofs.numbers.put_numbers.Tie as tie
 
@@ -52,7 +51,6 @@ same-length : tie.Need-same-length Inv-loop μ-loop
 same-length c = ap length (c .before .loop .inv .1) ∙ length-over _ _ _
 
 returns : tie.Need-returns Inv-loop μ-loop
-unfolding as-bytes
 returns c =
     let all : c .before .loop .i ≡ 8 = omega arith in
     rw all at (c .before .loop .inv .1)
