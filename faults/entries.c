@@ -1,6 +1,7 @@
 /* Calls the C entries on the records in the files that are named, each in a buffer of exactly its size, so that a tool that watches
  * memory sees every byte read or written outside. Joins each record with the one before it and with itself, and writes its closures and its
- * explanation, into buffers of several sizes. */
+ * explanation, into buffers of several sizes. Where it is not refused, mislabels its first level and then its last, for which each call has
+ * to refuse it. */
 #include <inttypes.h>
 #include <stdbool.h>
 #include <stdio.h>
@@ -58,6 +59,15 @@ static void take_back(uint8_t *out, size_t size, size_t written, const char *cal
     free(out);
 }
 
+/* Ends the run where a call does not answer this. */
+static void expect(uint32_t wanted, uint32_t answer, const char *call)
+{
+    if (answer == wanted)
+        return;
+    fprintf(stderr, "entries: %s answers %" PRIu32 ", not %" PRIu32 "\n", call, answer, wanted);
+    exit(1);
+}
+
 /* A join into a buffer of exactly so many bytes. A refused call changes none of them, another none behind the record. */
 static uint32_t join_into(struct bytes a, struct bytes b, size_t size)
 {
@@ -89,11 +99,7 @@ static uint32_t explain_into(struct bytes record, uint32_t check, size_t size)
 {
     uint8_t *out = lend(size);
     uint32_t answer = hookup_explain(record.at, record.len, out, size);
-    uint32_t wanted = judged(check) && size < HOOKUP_EXPLANATION ? HOOKUP_NO_ROOM : check;
-    if (answer != wanted) {
-        fprintf(stderr, "entries: an explanation answers %" PRIu32 ", not %" PRIu32 "\n", answer, wanted);
-        exit(1);
-    }
+    expect(judged(check) && size < HOOKUP_EXPLANATION ? HOOKUP_NO_ROOM : check, answer, "an explanation");
     take_back(out, size, judged(answer) ? HOOKUP_EXPLANATION : 0, "an explanation");
     return answer;
 }
@@ -105,11 +111,25 @@ struct tally {
 };
 
 static struct tally checks, joins, closures, explanations;
+static unsigned long mislabelled;
 
 static void count(struct tally *tally, bool done)
 {
     tally->calls++;
     tally->done += done;
+}
+
+/* A record that is not refused, with the level at this place mislabelled: each call refuses it. */
+static void mislabel(struct bytes record, size_t place)
+{
+    uint8_t level = record.at[place];
+    record.at[place] = 0x01;
+    expect(HOOKUP_MISLABELLED, hookup_check(record.at, record.len), "a check");
+    expect(HOOKUP_MISLABELLED, join_into(record, record, HOOKUP_MAX_RECORD), "a join");
+    expect(HOOKUP_MISLABELLED, closures_into(record, HOOKUP_MAX_CLOSURE), "a closure");
+    explain_into(record, HOOKUP_MISLABELLED, HOOKUP_EXPLANATION);
+    record.at[place] = level;
+    mislabelled++;
 }
 
 static void try_record(struct bytes before, struct bytes now)
@@ -125,6 +145,10 @@ static void try_record(struct bytes before, struct bytes now)
     size_t fits = now.len > 7 ? HOOKUP_CLOSURE_PIECE * (size_t)now.at[7] : 0;
     count(&closures, closures_into(now, fits) == HOOKUP_CLOSED);
     count(&closures, closures_into(now, fits == 0 ? 0 : fits - 1) == HOOKUP_CLOSED);
+    if (judged(check))
+        mislabel(now, HOOKUP_HEADER);
+    if (judged(check) && now.at[9] > 0)
+        mislabel(now, 9 + now.at[7] + 4 * (size_t)now.at[9]); /* the byte before the rows */
 }
 
 int main(int named, char **names)
@@ -137,7 +161,7 @@ int main(int named, char **names)
         before = now;
     }
     free(before.at);
-    printf("entries: %lu checks, %lu pass; %lu joins, %lu joined; %lu closures, %lu written; %lu explanations, %lu written\n", checks.calls,
-           checks.done, joins.calls, joins.done, closures.calls, closures.done, explanations.calls, explanations.done);
-    return checks.done != 0 && joins.done != 0 && closures.done != 0 && explanations.done != 0 ? 0 : 1;
+    printf("entries: %lu checks, %lu pass; %lu joins, %lu joined; %lu closures, %lu written; %lu explanations, %lu written; %lu mislabelled\n",
+           checks.calls, checks.done, joins.calls, joins.done, closures.calls, closures.done, explanations.calls, explanations.done, mislabelled);
+    return checks.done != 0 && joins.done != 0 && closures.done != 0 && explanations.done != 0 && mislabelled != 0 ? 0 : 1;
 }

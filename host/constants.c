@@ -1,5 +1,5 @@
-/* Holds the sizes of hookup.h, its struct, and the answer that hookup-host never gets, to the library. A size is right where the library
- * takes it and nothing beyond it. C11, and C++ too; status 1 and a line for each that is wrong. */
+/* Holds the sizes of hookup.h, its struct, the answer that hookup-host never gets, and which levels are mislabelled, to the library. A size
+ * is right where the library takes it and nothing beyond it. C11, and C++ too; status 1 and a line for each that is wrong. */
 #include <stdio.h>
 #include <string.h>
 
@@ -137,6 +137,40 @@ static void explanations(void)
     expect(HOOKUP_TOO_SHORT, hookup_explain(broken, HOOKUP_HEADER - 1, NULL, 0), "the explanation of no record, without room");
 }
 
+/* How many levels, from 0 on, are judged right at this place of a record that otherwise passes: refused are those of rank 0 with a
+ * compartment, and no others. */
+static size_t judged_right(uint8_t *record, size_t len, uint8_t *place)
+{
+    uint8_t before = *place;
+    size_t level = 0;
+    for (; level < 256; level++) {
+        uint32_t wanted = level >= 0x01 && level <= 0x3F ? HOOKUP_MISLABELLED : HOOKUP_PASS;
+        *place = (uint8_t)level;
+        if (hookup_check(record, len) != wanted)
+            break;
+    }
+    *place = before;
+    return level;
+}
+
+/* One state and most events. A stray bit, a mislabelled level and an unknown kind come in turn, and each hides the one before. */
+static void levels(void)
+{
+    static uint8_t record[512];
+    size_t len = make(record, 1, HOOKUP_MAX_EVENTS), last = HOOKUP_MAX_EVENTS - 1;
+    expect(256, judged_right(record, len, record + HOOKUP_HEADER), "levels of the observer judged right");
+    expect(256, judged_right(record, len, entry(record, 0) + 3), "levels of the first event judged right");
+    expect(256, judged_right(record, len, entry(record, last) + 3), "levels of the last event judged right");
+    step(record, 0, 0, 1);
+    expect(HOOKUP_STRAY_BIT, hookup_check(record, len), "a stray bit");
+    entry(record, last)[3] = 0x20;
+    expect(HOOKUP_MISLABELLED, hookup_check(record, len), "a mislabelled level with it");
+    expect_written(hookup_closure, record, len, sizeof out, HOOKUP_MISLABELLED, 0, "the closures of that");
+    expect_written(hookup_explain, record, len, sizeof out, HOOKUP_MISLABELLED, 0, "the explanation of that");
+    entry(record, last)[2] = 3;
+    expect(HOOKUP_MISORDERED, hookup_check(record, len), "an unknown kind with both");
+}
+
 int main(void)
 {
     static uint8_t largest[65536], smallest[64], states[65536], events[65536];
@@ -155,5 +189,6 @@ int main(void)
 
     closures();
     explanations();
+    levels();
     return wrong;
 }

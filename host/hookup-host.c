@@ -27,6 +27,7 @@ static const struct meaning meanings[] = {
     {HOOKUP_WRONG_SIZE, true, "the length is not the one for so many states and events"},
     {HOOKUP_MISNUMBERED, true, "the classes are not numbered by first appearance"},
     {HOOKUP_MISORDERED, true, "the identifiers do not rise, or an event kind is above 2"},
+    {HOOKUP_MISLABELLED, true, "a level of rank 0 has a compartment"},
     {HOOKUP_STRAY_BIT, true, "a row has a bit for a state that is not there"},
     {HOOKUP_OBSERVERS_DIFFER, false, "the observers differ"},
     {HOOKUP_CLASH, false, "a shared event clashes in kind or level"},
@@ -72,15 +73,51 @@ static int after_printing(bool printed, int status)
     return TROUBLE;
 }
 
-static int print_answer(uint32_t answer, const char *words, const char *which, int status)
+static int print_done(uint32_t answer, const char *words)
 {
-    return after_printing(printf("%" PRIu32 ": %s%s\n", answer, words, which) >= 0, status);
+    return after_printing(printf("%" PRIu32 ": %s\n", answer, words) >= 0, DONE);
 }
 
-static int print_refusal(uint32_t answer, const char *which)
+/* Whether a level, with the rank in its two highest bits and a bit for each compartment, has rank 0 and a compartment. */
+static bool mislabelled(uint8_t level)
+{
+    return level >> 6 == 0 && level != 0;
+}
+
+/* Prints a mislabelled level as a byte, and with its compartments. False and errno where that fails. */
+static bool print_level(uint8_t level)
+{
+    bool single = (level & (level - 1)) == 0;
+    bool printed = printf("0x%02x (rank 0, %s", level, single ? "compartment" : "compartments") >= 0;
+    for (int c = 0; printed && c < 6; c++)
+        if (level >> c & 1)
+            printed = printf(" %d", c) >= 0;
+    return printed && putchar(')') != EOF;
+}
+
+/* Prints which is the first mislabelled level of a record that is refused for it: the observer's, or that of an event. The body begins with
+ * the observer's level, the number of states, the start state and the number of events, a byte each. Behind the class bytes each event has
+ * four bytes: two of its identifier, lowest first, its kind, its level. False and errno where that fails. */
+static bool print_mislabelled(const uint8_t *record)
+{
+    const uint8_t *body = record + HOOKUP_HEADER;
+    if (mislabelled(body[0]))
+        return printf(": the observer has level ") >= 0 && print_level(body[0]);
+    const uint8_t *entry = body + 4 + body[1];
+    for (int i = 0; i < body[3]; i++, entry += 4)
+        if (mislabelled(entry[3]))
+            return printf(": event %d has level ", entry[0] | entry[1] << 8) >= 0 && print_level(entry[3]);
+    return true;
+}
+
+/* Prints an answer that is about this record, and where a level is mislabelled, which one. */
+static int print_refusal(uint32_t answer, const char *which, const uint8_t *record)
 {
     const struct meaning *m = find_meaning(answer);
-    return print_answer(answer, m == NULL ? "not an answer that hookup.h names" : m->words, which, REFUSED);
+    bool printed = printf("%" PRIu32 ": %s%s", answer, m == NULL ? "not an answer that hookup.h names" : m->words, which) >= 0;
+    if (printed && m != NULL && m->number == HOOKUP_MISLABELLED)
+        printed = print_mislabelled(record);
+    return after_printing(printed && putchar('\n') != EOF, REFUSED);
 }
 
 /* Bytes in memory that the holder frees. */
@@ -183,16 +220,16 @@ static size_t record_length(const uint8_t *record)
     return HOOKUP_HEADER + ((size_t)record[0] | (size_t)record[1] << 8 | (size_t)record[2] << 16 | (size_t)record[3] << 24);
 }
 
-static int print_verdict(uint32_t answer)
+static int print_verdict(uint32_t answer, const uint8_t *record)
 {
     if (answer == HOOKUP_PASS)
-        return print_answer(answer, "passes", "", DONE);
-    return print_refusal(answer, "");
+        return print_done(answer, "passes");
+    return print_refusal(answer, "", record);
 }
 
 static int check_record(struct bytes record)
 {
-    return print_verdict(hookup_check(record.at, record.len));
+    return print_verdict(hookup_check(record.at, record.len), record.at);
 }
 
 /* Prints which event breaks the rule, and at which states. False and errno where that fails. */
@@ -222,7 +259,7 @@ static int explain_record(struct bytes record)
 {
     struct hookup_explanation explanation;
     uint32_t answer = hookup_explain(record.at, record.len, (uint8_t *)&explanation, sizeof explanation);
-    int status = print_verdict(answer);
+    int status = print_verdict(answer, record.at);
     bool written = answer == HOOKUP_PASS || answer > HOOKUP_BREAK;
     if (status == TROUBLE || !written)
         return status;
@@ -260,7 +297,7 @@ static int print_closures(struct bytes record)
     uint8_t pieces[HOOKUP_MAX_CLOSURE];
     uint32_t answer = hookup_closure(record.at, record.len, pieces, sizeof pieces);
     if (answer != HOOKUP_CLOSED)
-        return print_refusal(answer, "");
+        return print_refusal(answer, "", record.at);
     int states = record.at[HOOKUP_HEADER + 1];
     bool printed = true;
     for (int s = 0; printed && s < states; s++)
@@ -283,10 +320,10 @@ static int join_records(struct bytes a, struct bytes b, const char *out)
     uint8_t record[HOOKUP_MAX_RECORD];
     uint32_t answer = hookup_join(a.at, a.len, b.at, b.len, record, sizeof record);
     if (answer != HOOKUP_JOINED)
-        return print_refusal(answer, side(answer));
+        return print_refusal(answer, side(answer), answer > HOOKUP_SECOND ? b.at : a.at);
     if (!(may_replace(out) && replace_file(out, record, record_length(record))))
         return TROUBLE;
-    return print_answer(answer, "joined", "", DONE);
+    return print_done(answer, "joined");
 }
 
 static int join_files(const char *first, const char *second, const char *out)

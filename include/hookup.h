@@ -23,7 +23,7 @@
 #define HOOKUP_JOINED 0 /* of hookup_join: the joined record is written */
 #define HOOKUP_CLOSED 0 /* of hookup_closure: the closures are written */
 
-/* Answers: refusals of a record, tested in this order. */
+/* Answers: refusals of a record, tested in this order, which is not that of the numbers. */
 #define HOOKUP_TOO_SHORT 1    /* fewer bytes than a header has */
 #define HOOKUP_WRONG_LENGTH 2 /* the length field is not the number of bytes behind the header */
 #define HOOKUP_WRONG_KIND 3   /* the kind of the record is not 1, a part */
@@ -31,6 +31,7 @@
 #define HOOKUP_WRONG_SIZE 5   /* the length is not that of so many states and events */
 #define HOOKUP_MISNUMBERED 6  /* the classes are not numbered by first appearance */
 #define HOOKUP_MISORDERED 7   /* the identifiers do not rise, or an event's kind is above 2 */
+#define HOOKUP_MISLABELLED 16 /* the observer's level or that of an event has rank 0 and a compartment */
 #define HOOKUP_STRAY_BIT 8    /* a row has a bit for a state that is not there */
 
 /* Answers: refusals of two passing parts, tested in this order. */
@@ -49,8 +50,8 @@ extern "C" {
 
 /* Checks one part record of len bytes.
  *
- * Answers HOOKUP_PASS; the first refusal that applies to the bytes, HOOKUP_TOO_SHORT to HOOKUP_STRAY_BIT; or HOOKUP_BREAK plus the
- * first broken rule. Any bytes of any length are taken, and nothing is written.
+ * Answers HOOKUP_PASS; the first refusal of a record that applies to the bytes; or HOOKUP_BREAK plus the first broken
+ * rule. Any bytes of any length are taken, and nothing is written.
  *
  * record may be null only where len is 0; otherwise it points to len readable bytes. The call reads nothing else, keeps
  * nothing, takes no lock, and may be made by several threads at once. It needs less
@@ -84,13 +85,13 @@ uint32_t hookup_join(const uint8_t *a, size_t alen, const uint8_t *b, size_t ble
  * The number of visits is the number of set bits; a zero among the visits is state 0. The part need not pass.
  *
  * Otherwise nothing is written, and the answer is the first of these that applies:
- *   the refusal of the record, HOOKUP_TOO_SHORT to HOOKUP_STRAY_BIT
+ *   the first refusal of a record that applies to the bytes
  *   HOOKUP_NO_ROOM, which never comes where out has HOOKUP_MAX_CLOSURE bytes
  * The bytes of out behind the last piece stay as they were.
  *
  * out may not overlap the record. A pointer may be null only where its length is 0. The call reads and writes nothing else, keeps
- * nothing, takes no lock, and may be made by several threads at once. It needs less than 6 KB of stack: 776 bytes were measured on
- * records of 64 states and 32 events, 3,880 on a first call. */
+ * nothing, takes no lock, and may be made by several threads at once. It needs less than 6 KB of stack: 784 bytes were measured on
+ * records of 64 states and 32 events, 3,912 on a first call. */
 uint32_t hookup_closure(const uint8_t *record, size_t len, uint8_t *out, size_t outlen);
 
 /* What hookup_explain writes: eight numbers of eight bytes, lowest byte first, as they lie in memory on x86-64. Where the part passes, the

@@ -12,18 +12,18 @@ const ROOM: usize = 16_700;
 /// Bytes of an explanation.
 const EXPLANATION: usize = 64;
 
-/// How often each answer came, and how many comparisons failed.
+/// How often each answer came, how often which level was mislabelled on purpose, and how many comparisons failed.
 #[derive(Default)]
 pub struct Score {
     pub checks: BTreeMap<u32, usize>,
     pub explanations: BTreeMap<u32, usize>,
     pub joins: BTreeMap<u32, usize>,
     pub closures: BTreeMap<u32, usize>,
+    pub mislabelled: BTreeMap<String, usize>,
     pub differences: usize,
 }
 
 impl Score {
-
     fn fault(&mut self, what: String) {
         self.differences += 1;
         if self.differences <= 20 {
@@ -113,7 +113,7 @@ impl Score {
         }
     }
 
-    /// Random parts, whole and damaged, and random bytes.
+    /// Random parts, whole, damaged and mislabelled, and random bytes.
     pub fn random(&mut self, seed: u64, rounds: usize) {
         let dice = &mut Dice(seed);
         for round in 0..rounds {
@@ -126,6 +126,7 @@ impl Score {
             self.join(&format!("damaged A {round}"), &x, &y, ROOM);
             damage(dice, &mut y);
             self.join(&format!("damaged B {round}"), &a.record(), &y, ROOM);
+            self.mislabelled(dice, round, &a, b);
             let c = scattered(dice);
             self.single(dice, &format!("scattered part {round}"), &c.record(), c.n());
             let noise: Vec<u8> = (0..dice.below(40)).map(|_| dice.below(3) as u8).collect();
@@ -133,11 +134,24 @@ impl Score {
         }
     }
 
-    /// The calls on one record, which was made with n states.
-    fn single(&mut self, dice: &mut Dice, name: &str, record: &[u8], n: usize) {
-        self.check(name, record);
+    /// B with a mislabelled level, alone and on both sides of a join.
+    fn mislabelled(&mut self, dice: &mut Dice, round: usize, a: &Table, mut b: Table) {
+        let (which, due) = mislabel(dice, &mut b);
+        let (x, y) = (a.record(), b.record());
+        let name = format!("part {round}, mislabelled {which}");
+        let answer = self.single(dice, &name, &y, b.n());
+        self.made_for(&name, due, answer);
+        let answer = self.join(&name, &y, &x, ROOM);
+        self.made_for(&name, due, answer);
+        self.join(&name, &x, &y, ROOM);
+        *self.mislabelled.entry(which).or_default() += 1;
+    }
+
+    /// The calls on one record, which was made with n states. Gives Check's answer.
+    fn single(&mut self, dice: &mut Dice, name: &str, record: &[u8], n: usize) -> u32 {
         self.explain(name, record, room(dice, EXPLANATION));
         self.closure(name, record, room(dice, PIECE * n));
+        self.check(name, record)
     }
 }
 
@@ -195,7 +209,7 @@ fn grouped(dice: &mut Dice, n: usize, observer: u8) -> Table {
     let thin = dice.one_in(3);
     for _ in 0..m {
         let kind = dice.below(3) as u8;
-        let level = [0x00, HIGH, 0x80, observer, observer & dice.next() as u8, dice.next() as u8][dice.below(6)];
+        let level = [0x00, HIGH, 0x80, observer, dice.level(observer), dice.level(0xff)][dice.below(6)];
         let low = level >> 6 <= table.observer >> 6 && level & !table.observer & 0x3f == 0;
         let goals: Vec<u64> = (0..seen)
             .map(|class| match (kind == INPUT, low) {
@@ -267,6 +281,29 @@ fn joined_len(a: &Table, b: &Table) -> usize {
     let shared = a.events.iter().filter(|event| b.events.iter().any(|other| other.id == event.id)).count();
     let m = a.events.len() + b.events.len() - shared;
     10 + n + 4 * m + 8 * m * n
+}
+
+/// Mislabels one level. Sometimes it also sets a stray bit, which 16 hides, or an unknown kind, which hides 16. Tells what it did, and which
+/// answer is due.
+fn mislabel(dice: &mut Dice, table: &mut Table) -> (String, u32) {
+    let (n, m) = (table.n(), table.events.len());
+    let (whose, level) = match dice.below(3) {
+        0 if m > 0 => ("first event", &mut table.events[0].level),
+        1 if m > 0 => ("last event", &mut table.events[m - 1].level),
+        _ => ("observer", &mut table.observer),
+    };
+    *level = 1 + dice.below(63) as u8;
+    match dice.below(6) {
+        0 | 1 if m > 0 && n < 64 => {
+            table.events[dice.below(m)].rows[dice.below(n)] |= 1 << (n + dice.below(64 - n));
+            (format!("{whose} with 8"), 16)
+        }
+        2 if m > 0 => {
+            table.events[dice.below(m)].kind = 3;
+            (format!("{whose} with 7"), 7)
+        }
+        _ => (whose.to_string(), 16),
+    }
 }
 
 fn damage(dice: &mut Dice, record: &mut Vec<u8>) {

@@ -17,7 +17,17 @@ impl Dice {
     }
 
     pub fn observer(&mut self) -> u8 {
-        [0x00, 0x80, 0x81, self.next() as u8][self.below(4)]
+        [0x00, 0x80, 0x81, self.level(0xff)][self.below(4)]
+    }
+
+    /// A level at or below this one. Rank 0 has no compartments: no level is mislabelled.
+    pub fn level(&mut self, most: u8) -> u8 {
+        let level = most & self.next() as u8;
+        if level >> 6 == 0 {
+            0
+        } else {
+            level
+        }
     }
 
     pub fn one_in(&mut self, n: usize) -> bool {

@@ -11,6 +11,7 @@ mod timing;
 use agree::Score;
 use inputs::{Inputs, One, Pair};
 use std::collections::BTreeMap;
+use std::fmt::Display;
 use std::hint::black_box;
 use std::io::Write;
 use std::path::{Path, PathBuf};
@@ -137,13 +138,18 @@ fn compare(inputs: &Inputs, rounds: usize) {
     println!("Compared with the library, as answer:times");
     let answers = [("checks", &score.checks), ("explanations", &score.explanations), ("joins", &score.joins), ("closures", &score.closures)];
     for (calls, counts) in answers {
-        let parts: Vec<String> = counts.iter().map(|(answer, times)| format!("{answer}:{times}")).collect();
-        println!("  {} {calls}  {}", counts.values().sum::<usize>(), parts.join(" "));
+        show_counts(calls, counts, " ");
     }
+    show_counts("of these parts mislabelled on purpose", &score.mislabelled, ", ");
     if score.differences > 0 {
         println!("{} differences", score.differences);
         exit(1);
     }
+}
+
+fn show_counts(what: &str, counts: &BTreeMap<impl Display, usize>, between: &str) {
+    let parts: Vec<String> = counts.iter().map(|(key, times)| format!("{key}:{times}")).collect();
+    println!("  {} {what}  {}", counts.values().sum::<usize>(), parts.join(between));
 }
 
 fn spin(inputs: &Inputs, calls: usize) {

@@ -188,6 +188,7 @@ pub fn differences(a: &Table, b: &Table) -> Vec<String> {
 #[cfg(test)]
 mod tests {
     use super::*;
+    use crate::level::Level;
     use crate::random::{self, Rng};
     use crate::reader;
 
@@ -242,8 +243,8 @@ event 12 internal rank 3 compartments 1 5
     #[test]
     fn kinds_levels_and_steps() {
         assert_eq!(changed("input", "output"), ["event 7 \"send\": kind: A input, B output"]);
-        let level = "event 9: level: A rank 0 compartments none (0x00), B rank 0 compartments 5 (0x20)";
-        assert_eq!(changed("rank 0 compartments none", "rank 0 compartments 5"), [level]);
+        let level = "event 9: level: A rank 0 compartments none (0x00), B rank 1 compartments 5 (0x60)";
+        assert_eq!(changed("rank 0 compartments none", "rank 1 compartments 5"), [level]);
         let both = "event 7 \"send\", from 0:idle: only A leads to 1:sent; only B leads to 0:idle";
         assert_eq!(changed("idle -> sent full", "idle -> idle full"), [both]);
         let more = "event 7 \"send\", from 1:sent: only B leads to 2:full";
@@ -313,12 +314,20 @@ event 12 internal rank 3 compartments 1 5
         assert!(pairs.ends_with(", 0 with 10, and 2006 more"), "{pairs}");
     }
 
+    /// Changes one bit of a level, but not where it would then be mislabelled.
+    fn relabel(rng: &mut Rng, level: &mut Level) {
+        let changed = Level(level.0 ^ 1 << rng.below(8));
+        if !changed.is_mislabelled() {
+            *level = changed;
+        }
+    }
+
     /// Changes one field of a part at random, perhaps to what it was.
     fn change(rng: &mut Rng, part: &mut Part) {
         let n = part.state_count();
         let e = rng.below(part.events.len().max(1));
         match (rng.below(6), part.events.get_mut(e)) {
-            (0, _) => part.observer.0 ^= 1 << rng.below(8),
+            (0, _) => relabel(rng, &mut part.observer),
             (1, _) => part.start = rng.below(n),
             (2, _) => {
                 let mut numbers: Vec<usize> = part.classes.iter().map(|&class| class as usize).collect();
@@ -328,7 +337,7 @@ event 12 internal rank 3 compartments 1 5
             (3, Some(event)) => event.rows[rng.below(n)] ^= 1 << rng.below(n),
             (4, Some(event)) => event.kind = rng.pick(&crate::part::Kind::ALL),
             (5, Some(_)) => drop(part.events.remove(e)),
-            (_, Some(event)) => event.level.0 ^= 1 << rng.below(8),
+            (_, Some(event)) => relabel(rng, &mut event.level),
             (_, None) => {}
         }
     }

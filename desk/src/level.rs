@@ -1,4 +1,4 @@
-//! Levels: one byte with a rank and six compartments. Document 01, "Levels".
+//! Levels: one byte with a rank and six compartments. Document 01, "Levels", and document 02, d.
 
 /// The largest rank; bits 7 and 6 hold it.
 pub const MAX_RANK: u8 = 3;
@@ -32,6 +32,15 @@ impl Level {
         self.0 & COMPARTMENT_BITS & (1 << compartment) != 0
     }
 
+    fn has_any(self) -> bool {
+        self.0 & COMPARTMENT_BITS != 0
+    }
+
+    /// Rank 0 and a compartment: a record with such a level is refused with 16.
+    pub fn is_mislabelled(self) -> bool {
+        self.rank() == 0 && self.has_any()
+    }
+
     /// The order of levels: the rank is not larger, and each compartment is also the other's.
     pub fn at_or_below(self, other: Level) -> bool {
         let missing = self.0 & COMPARTMENT_BITS & !other.0;
@@ -46,7 +55,7 @@ impl Level {
                 text.push_str(&format!(" {compartment}"));
             }
         }
-        if self.0 & COMPARTMENT_BITS == 0 {
+        if !self.has_any() {
             text.push_str(" none");
         }
         text
@@ -70,6 +79,17 @@ mod tests {
         assert_eq!(Level(0xC0).text(), "rank 3 compartments none");
         assert_eq!(Level(0xFF).text_and_byte(), "rank 3 compartments 0 1 2 3 4 5 (0xFF)");
         assert_eq!(Level(0).text_and_byte(), "rank 0 compartments none (0x00)");
+    }
+
+    /// All bytes, bit by bit.
+    #[test]
+    fn mislabelled_levels() {
+        for byte in 0..=255u8 {
+            let rank = byte / 64;
+            let compartment = (0..6).any(|bit| (byte >> bit) & 1 == 1);
+            assert_eq!(Level(byte).is_mislabelled(), rank == 0 && compartment);
+            assert_eq!(Level(byte).is_mislabelled(), (0x01..=0x3F).contains(&byte));
+        }
     }
 
     #[test]

@@ -64,9 +64,19 @@ fn row(rng: &mut Rng, n: usize) -> u64 {
     }
 }
 
+/// Any level that is not mislabelled; each rank comes up as often as the others.
+fn level(rng: &mut Rng) -> Level {
+    let any = Level(rng.next() as u8);
+    if any.is_mislabelled() {
+        Level::of_rank(0)
+    } else {
+        any
+    }
+}
+
 fn event(rng: &mut Rng, identifier: u16, n: usize) -> Event {
     let rows = (0..n).map(|_| row(rng, n)).collect();
-    Event { identifier, kind: rng.pick(&Kind::ALL), level: Level(rng.next() as u8), rows }
+    Event { identifier, kind: rng.pick(&Kind::ALL), level: level(rng), rows }
 }
 
 /// Any part that a record can hold.
@@ -76,7 +86,7 @@ pub fn part(rng: &mut Rng) -> Part {
     let class_bound = rng.pick(&[1, 2, 3, n]);
     let numbers: Vec<usize> = (0..n).map(|_| rng.below(class_bound)).collect();
     let events = identifiers(rng, m).into_iter().map(|identifier| event(rng, identifier, n)).collect();
-    Part { observer: Level(rng.next() as u8), start: rng.below(n), classes: by_first_appearance(&numbers), events }
+    Part { observer: level(rng), start: rng.below(n), classes: by_first_appearance(&numbers), events }
 }
 
 /// n states, each its own class, and m events that lead from every state to every state.

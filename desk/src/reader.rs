@@ -125,7 +125,7 @@ impl Reader {
         unexpected(self.peek(), &format!("{thing} from 0 to {most}"))
     }
 
-    /// level = "rank" number "compartments" ( "none" | number { number } )
+    /// level = "rank" number "compartments" ( "none" | number { number } ); for rank 0 only "none"
     fn level(&mut self) -> Result<Level, Fault> {
         self.keyword("rank")?;
         let rank = self.number("a rank", MAX_RANK as usize)?;
@@ -134,6 +134,9 @@ impl Reader {
         if self.at_word("none") {
             self.take();
             return Ok(level);
+        }
+        if rank == 0 {
+            return unexpected(self.peek(), "'none', as a level of rank 0 has no compartments (refusal 16)");
         }
         self.compartments(level)
     }
@@ -413,6 +416,7 @@ pub fn read(bytes: &[u8]) -> Result<Table, Fault> {
 mod tests {
     use super::*;
     use crate::random::Rng;
+    use crate::record;
 
     const GOOD: &str = "\
 # a comment
@@ -505,6 +509,20 @@ event 12 internal rank 3 compartments 5 1
         assert_eq!(said("0 3", "none 0"), "3:35: expected the end of the line, found '0'");
         let event = "7:24: expected 'rank', found the end of the line";
         assert_eq!(said("input rank 2 compartments none", "input"), event);
+    }
+
+    /// A level of rank 0, with anything else in the place of 'none'.
+    #[test]
+    fn faults_of_rank_0() {
+        let expected = "expected 'none', as a level of rank 0 has no compartments (refusal 16), found";
+        assert_eq!(said("rank 1 compartments 0 3", "rank 0 compartments 0"), format!("3:30: {expected} '0'"));
+        assert_eq!(said("rank 1", "rank 00"), format!("3:31: {expected} '0'"));
+        assert_eq!(said("rank 2 compartments none", "rank 0 compartments 5"), format!("7:45: {expected} '5'"));
+        assert_eq!(said("rank 3", "rank 0"), format!("11:39: {expected} '5'"));
+        let nine = "rank 0 compartments none\nevent 12";
+        assert_eq!(said(nine, "rank 0 compartments 3 3\nevent 12"), format!("10:36: {expected} '3'"));
+        assert_eq!(said(nine, "rank 0 compartments 6\nevent 12"), format!("10:36: {expected} '6'"));
+        assert_eq!(said(nine, "rank 0 compartments\nevent 12"), format!("10:35: {expected} the end of the line"));
     }
 
     #[test]
@@ -663,6 +681,7 @@ event 12 internal rank 3 compartments 5 1
             match read(&bytes) {
                 Ok(table) => {
                     assert_eq!(read(crate::writer::write(&table.part).as_bytes()).unwrap().part, table.part);
+                    assert_eq!(record::read(&record::write(&table.part)), Ok(table.part));
                     parts += 1;
                 }
                 Err(fault) => {

@@ -1,5 +1,6 @@
-//! The part record: bytes to a part and back. Document 01, "The part record" and "Refusals out of the input".
-//! Where a file is not a well-formed record, the first of the conditions 1 to 8 that stands in the way is told.
+//! The part record: bytes to a part and back. Document 01, "The part record" and "Refusals out of the input", and
+//! document 02, d. Where a file is not a well-formed record, the first condition that stands in the way is told. The
+//! conditions are tested in the order 1 to 7, 16, 8, each on the whole record.
 
 use std::fmt;
 
@@ -7,6 +8,7 @@ use crate::level::Level;
 use crate::part::{states_of, Event, Kind, Part, MAX_EVENTS, MAX_STATES};
 
 const HEADER: usize = 6;
+const OBSERVER_AT: usize = 6;
 const STATES_AT: usize = 7;
 const START_AT: usize = 8;
 const EVENTS_AT: usize = 9;
@@ -22,7 +24,7 @@ pub struct Misfit {
 
 impl fmt::Display for Misfit {
     fn fmt(&self, f: &mut fmt::Formatter) -> fmt::Result {
-        write!(f, "byte {}: condition {} of document 01: {}", self.byte, self.condition, self.message)
+        write!(f, "byte {}: condition {}: {}", self.byte, self.condition, self.message)
     }
 }
 
@@ -147,6 +149,23 @@ fn entries(bytes: &[u8], n: usize, m: usize) -> Result<Vec<Event>, Misfit> {
     Ok(events)
 }
 
+/// Condition 16: the observer's level first, then those of the events.
+fn levels(n: usize, observer: Level, events: &[Event]) -> Result<(), Misfit> {
+    label(OBSERVER_AT, observer, "the observer's level")?;
+    for (e, event) in events.iter().enumerate() {
+        label(entry_at(n, e) + 3, event.level, &format!("the level of event {}", event.identifier))?;
+    }
+    Ok(())
+}
+
+/// Condition 16 for one level; `title` says whose it is.
+fn label(at: usize, level: Level, title: &str) -> Result<(), Misfit> {
+    if level.is_mislabelled() {
+        return misfit(16, at, format!("{title} is {}, expected no compartments at rank 0", level.text_and_byte()));
+    }
+    Ok(())
+}
+
 /// Condition 8: gives the row at an offset.
 fn row(bytes: &[u8], at: usize, n: usize, identifier: u16, s: usize) -> Result<u64, Misfit> {
     let row = u64_at(bytes, at);
@@ -163,13 +182,15 @@ pub fn read(bytes: &[u8]) -> Result<Part, Misfit> {
     let (n, m) = counts(bytes)?;
     length(bytes, n, m)?;
     let classes = classes(bytes, n)?;
+    let observer = Level(bytes[OBSERVER_AT]);
     let mut events = entries(bytes, n, m)?;
+    levels(n, observer, &events)?;
     for (e, event) in events.iter_mut().enumerate() {
         for s in 0..n {
             event.rows.push(row(bytes, row_at(n, m, e, s), n, event.identifier, s)?);
         }
     }
-    Ok(Part { observer: Level(bytes[HEADER]), start: bytes[START_AT] as usize, classes, events })
+    Ok(Part { observer, start: bytes[START_AT] as usize, classes, events })
 }
 
 /// The record of a part.
@@ -213,10 +234,22 @@ mod tests {
         }
     }
 
-    fn said_with(byte: usize, value: u8) -> String {
+    /// The toggle with some of its bytes changed.
+    fn toggle_with(changes: &[(usize, u8)]) -> Vec<u8> {
         let mut bytes = toggle();
-        bytes[byte] = value;
-        said(&bytes)
+        for &(byte, value) in changes {
+            bytes[byte] = value;
+        }
+        bytes
+    }
+
+    fn said_with(byte: usize, value: u8) -> String {
+        said(&toggle_with(&[(byte, value)]))
+    }
+
+    /// Condition and byte of the misfit.
+    fn misfit_with(changes: &[(usize, u8)]) -> Option<(u8, usize)> {
+        read(&toggle_with(changes)).err().map(|misfit| (misfit.condition, misfit.byte))
     }
 
     #[test]
@@ -256,7 +289,7 @@ mod tests {
     }
 
     #[test]
-    fn conditions_6_to_8() {
+    fn conditions_6_7_and_8() {
         assert_eq!(said_with(10, 1), "6 at 10: the class of state 0 is 1, expected 0");
         assert_eq!(said_with(11, 2), "6 at 11: the class of state 1 is 2, expected 0 to 1");
         assert_eq!(said_with(12, 2), "7 at 16: identifier 2 after 2, expected a larger one");
@@ -268,16 +301,49 @@ mod tests {
     }
 
     #[test]
+    fn condition_16() {
+        let expected = "expected no compartments at rank 0";
+        let observer = format!("16 at 6: the observer's level is rank 0 compartments 0 (0x01), {expected}");
+        assert_eq!(said_with(6, 0x01), observer);
+        let first = format!("16 at 15: the level of event 1 is rank 0 compartments 0 1 2 3 4 5 (0x3F), {expected}");
+        assert_eq!(said_with(15, 0x3F), first);
+        let last = format!("16 at 19: the level of event 2 is rank 0 compartments 3 (0x08), {expected}");
+        assert_eq!(said_with(19, 0x08), last);
+    }
+
+    /// Each byte as each level: a misfit exactly where it is mislabelled.
+    #[test]
+    fn all_bytes_as_levels() {
+        for at in [6, 15, 19] {
+            for byte in 0..=255 {
+                let mislabelled = Level(byte).is_mislabelled();
+                assert_eq!(misfit_with(&[(at, byte)]), mislabelled.then_some((16, at)));
+            }
+        }
+    }
+
+    /// Condition 7 comes first on all entries, 16 on the observer, then on the events, then 8 on all rows.
+    #[test]
+    fn the_place_of_condition_16() {
+        assert_eq!(misfit_with(&[(19, 1), (15, 1), (6, 1)]), Some((16, 6)));
+        assert_eq!(misfit_with(&[(19, 1), (15, 1)]), Some((16, 15)));
+        assert_eq!(misfit_with(&[(6, 1), (18, 3)]), Some((7, 18)));
+        assert_eq!(misfit_with(&[(15, 1), (16, 1)]), Some((7, 16)));
+        assert_eq!(misfit_with(&[(19, 1), (20, 4)]), Some((16, 19)));
+    }
+
+    #[test]
     fn a_misfit_in_words() {
         let misfit = read(&[1, 2]).unwrap_err();
-        assert_eq!(misfit.to_string(), "byte 2: condition 1 of document 01: the file has 2 bytes, expected 6 or more");
+        assert_eq!(misfit.to_string(), "byte 2: condition 1: the file has 2 bytes, expected 6 or more");
     }
 
     #[test]
     fn an_earlier_condition_comes_first() {
         let mut bytes = toggle();
-        for (byte, value, condition) in [(20, 4, 8), (14, 3, 7), (11, 9, 6), (9, 1, 5), (8, 2, 4), (5, 1, 3), (0, 0, 2)]
-        {
+        let content = [(20, 4, 8), (19, 1, 16), (14, 3, 7), (11, 9, 6)];
+        let frame = [(9, 1, 5), (8, 2, 4), (5, 1, 3), (0, 0, 2)];
+        for (byte, value, condition) in content.into_iter().chain(frame) {
             bytes[byte] = value;
             assert_eq!(read(&bytes).unwrap_err().condition, condition);
         }
@@ -305,7 +371,7 @@ mod tests {
     #[test]
     fn changed_records_come_back_or_misfit() {
         let mut rng = Rng::new(2);
-        let (mut read_back, mut refused) = (0, [0; 9]);
+        let (mut read_back, mut refused) = (0, [0; 17]);
         for _ in 0..5000 {
             let mut bytes = write(&random::part(&mut rng));
             random::damage(&mut rng, &mut bytes);
@@ -317,6 +383,7 @@ mod tests {
                 Err(misfit) => refused[misfit.condition as usize] += 1,
             }
         }
-        assert!(read_back > 100 && refused[1..].iter().all(|&count| count > 10), "{read_back} {refused:?}");
+        let least = [1, 2, 3, 4, 5, 6, 7, 16, 8].map(|condition| refused[condition]).into_iter().min();
+        assert!(read_back > 100 && least > Some(100), "{read_back} {refused:?}");
     }
 }

@@ -187,7 +187,7 @@ event 1 input rank 2 compartments none
   a -> c
 event 2 input rank 0 compartments none
   a -> c
-event 3 \"out\" output rank 0 compartments 0
+event 3 \"out\" output rank 1 compartments 0
   a -> c
 event 4 output rank 1 compartments none
   a -> c
@@ -217,6 +217,7 @@ event 5 internal rank 1 compartments none
     fn lines_of_verdict() {
         assert_eq!(read("pass"), Ok(Verdict::Pass));
         assert_eq!(read(" refused 8\n"), Ok(Verdict::Refused(8)));
+        assert_eq!(read("refused 16"), Ok(Verdict::Refused(16)));
         let named = Break { rule: 2, event: 65535, s: 0, t: 63, u: 0 };
         assert_eq!(read("rule 2 event 65535 from 0 to 63 other 0\n"), Ok(Verdict::Broken(named)));
     }
@@ -245,6 +246,7 @@ event 5 internal rank 1 compartments none
     #[test]
     fn lines_about_another_part() {
         assert_eq!(misfit("refused 3"), "the file is a well-formed record or table");
+        assert_eq!(misfit("refused 16"), "the file is a well-formed record or table");
         assert_eq!(misfit("rule 1 event 9 from 0 to 0 other 0"), "there is no event 9");
         assert_eq!(misfit("rule 1 event 1 from 3 to 0 other 0"), "there is no state 3, the last is 2");
         assert_eq!(misfit("rule 3 event 2 from 0 to 2 other 4"), "there is no state 4, the last is 2");
@@ -283,6 +285,7 @@ event 5 internal rank 1 compartments none
     #[test]
     fn verdicts_in_words() {
         assert_eq!(in_words("pass"), "The verdict given: pass.");
+        assert_eq!(words(&table(), &Verdict::Refused(16)), "The verdict given: refused 16.");
         let one =
             "Rule 1 is broken: the low input 2 has no step from s (state 1, b); inputs need a step from each state.";
         assert_eq!(in_words("rule 1 event 2 from 1 to 0 other 0"), one);

@@ -1,8 +1,9 @@
 //! Collections of records that hold each category often enough, by the checker's own verdict.
 
 use crate::category::{self, Tally};
-use crate::make::{self, Wanted, PLACES};
-use crate::record;
+use crate::category_label::{self, BAD_LEVELS, GOOD_LEVELS};
+use crate::make::{self, Wanted};
+use crate::record::{self, ORDER};
 use crate::rng::Rng;
 
 /// How many inputs a collection may try before it gives up; a run then fails for want of a category.
@@ -32,7 +33,7 @@ fn tally_of(names: &[String], minimum: usize) -> Tally {
     tally
 }
 
-/// Records for refusals 1 to 8, each by a small damage to a passing record.
+/// Records for refusals 1 to 8 and 16, each by a small damage to a passing record.
 pub fn refused(rng: &mut Rng, minimum: usize) -> Vec<Vec<u8>> {
     let mut tally = tally_of(&category::refused_names(), minimum);
     let mut kept = Vec::new();
@@ -43,29 +44,115 @@ pub fn refused(rng: &mut Rng, minimum: usize) -> Vec<Vec<u8>> {
         let n = if rng.chance(1, 10) { rng.range(9, 64) } else { rng.range(1, 8) };
         let m = if rng.chance(1, 10) { rng.range(7, 32) } else { rng.range(0, 6) };
         let mut bytes = record::write(&make::passing_of_size(rng, n, m));
-        make::damage(rng, &mut bytes, (round % 8) as u32 + 1);
+        make::damage(rng, &mut bytes, ORDER[round % ORDER.len()]);
         let names = category::of_record(&bytes);
         keep_if_wanted(&mut tally, &mut kept, bytes, &names);
     }
     kept
 }
 
-/// Two damages at once, with the numbers of the earlier and the later refusal meant; 9 stands for a break.
-pub fn twice_damaged(rng: &mut Rng) -> (Vec<u8>, u32, u32) {
-    let later = rng.range(2, 9) as u32;
-    let earlier = rng.range(1, later as usize - 1) as u32;
+/// Records for the categories of levels: each bad level alone, then bad ones at each place.
+pub fn mislabelled(rng: &mut Rng, minimum: usize) -> Vec<Vec<u8>> {
+    let mut tally = tally_of(&category_label::names(), minimum);
+    let mut kept = Vec::new();
+    for level in BAD_LEVELS {
+        for whose in [0, rng.range(1, 3)] {
+            let mut bytes = record::write(&make::passing_of_size(rng, 2, 3));
+            make::label(&mut bytes, whose, level);
+            kept.push(bytes);
+        }
+    }
+    for round in 0..MOST_TRIES {
+        if tally.too_few().is_empty() {
+            break;
+        }
+        let bytes = one_mislabelled(rng, round);
+        let names = category_label::of_record(&bytes);
+        keep_if_wanted(&mut tally, &mut kept, bytes, &names);
+    }
+    kept
+}
+
+/// A record with bad levels at the places of this round, or with good ones near them, now and then with another damage.
+fn one_mislabelled(rng: &mut Rng, round: usize) -> Vec<u8> {
+    let m = match round % 8 {
+        0 => 0,
+        1 => 1,
+        2 => 32,
+        _ => rng.range(3, 5),
+    };
+    let n = rng.range(3, 5);
+    let part = passing_or_breaking(rng, n, m);
+    let mut whose: Vec<usize> = match round % 8 {
+        0 | 3 => vec![0],
+        1 | 4 => vec![1],
+        5 => vec![rng.range(2, m - 1)],
+        2 | 6 => vec![m],
+        _ => (0..=m).filter(|_| rng.chance(1, 2)).collect(),
+    };
+    let is_good = rng.chance(1, 4);
+    if is_good {
+        whose.push(0);
+    }
+    let mut bytes = record::write(&part);
+    for place in whose {
+        let level = if is_good { rng.pick(&GOOD_LEVELS) } else { make::bad_level(rng, part.observer) };
+        make::label(&mut bytes, place, level);
+    }
+    if !is_good && rng.chance(1, 3) {
+        let refusal = rng.pick(&[6, 7, 8]);
+        make::damage(rng, &mut bytes, refusal);
+    }
+    bytes
+}
+
+/// A part of this size that passes, or that is meant to break any rule.
+fn passing_or_breaking(rng: &mut Rng, n: usize, m: usize) -> record::Part {
+    let rule = rng.below(6) as u32;
+    if rule > 0 && m >= 3 {
+        let wanted = Wanted::anywhere(rng, rule);
+        if let Some(part) = make::breaking(rng, wanted, n, m) {
+            return part;
+        }
+    }
+    make::passing_of_size(rng, n, m)
+}
+
+/// Two reasons to stop, the earlier one first; none stands for a break.
+pub type Reasons = (u32, Option<u32>);
+
+/// Every two reasons.
+pub fn each_two_reasons() -> Vec<Reasons> {
+    let mut reasons = Vec::new();
+    for earlier in 0..ORDER.len() {
+        for later in earlier + 1..ORDER.len() {
+            reasons.push((ORDER[earlier], Some(ORDER[later])));
+        }
+        reasons.push((ORDER[earlier], None));
+    }
+    reasons
+}
+
+/// The refusals behind which another one can come.
+pub fn earlier_refusals() -> &'static [u32] {
+    &ORDER[..ORDER.len() - 1]
+}
+
+/// Two damages at once, with the reasons that are meant.
+pub fn twice_damaged(rng: &mut Rng) -> (Vec<u8>, Reasons) {
+    let (earlier, later) = rng.pick(&each_two_reasons());
     let n = rng.range(2, 6);
     let m = rng.range(2, 5);
     let mut part = make::passing_of_size(rng, n, m);
-    if later == 9 {
+    if later.is_none() {
         part = make::changed_steps(rng, &part);
     }
     let mut bytes = record::write(&part);
-    if later < 9 {
-        make::damage(rng, &mut bytes, later);
+    if let Some(number) = later {
+        make::damage(rng, &mut bytes, number);
     }
     make::damage(rng, &mut bytes, earlier);
-    (bytes, earlier, later)
+    (bytes, (earlier, later))
 }
 
 /// Records for each rule as the first break, at first, middle and last places, and at the boundaries.
@@ -78,13 +165,7 @@ pub fn breaking(rng: &mut Rng, minimum: usize) -> Vec<Vec<u8>> {
             break;
         }
         let boundaries_only = too_few.iter().all(|name| name.starts_with("break"));
-        let wanted = Wanted {
-            rule: (round % 5) as u32 + 1,
-            event: rng.pick(&PLACES),
-            s: rng.pick(&PLACES),
-            t: rng.pick(&PLACES),
-            u: rng.pick(&PLACES),
-        };
+        let wanted = Wanted::anywhere(rng, (round % 5) as u32 + 1);
         let made = match round % 13 {
             0 => make::breaking(rng, wanted, 64, 3),
             1 => {
@@ -191,13 +272,8 @@ pub fn misread(rng: &mut Rng, minimum: usize) -> Vec<Vec<u8>> {
             }
             2 => make::damaged_out_of_reach(rng),
             _ => {
-                let wanted = Wanted {
-                    rule: rng.range(1, 5) as u32,
-                    event: rng.pick(&PLACES),
-                    s: rng.pick(&PLACES),
-                    t: rng.pick(&PLACES),
-                    u: rng.pick(&PLACES),
-                };
+                let rule = rng.range(1, 5) as u32;
+                let wanted = Wanted::anywhere(rng, rule);
                 let n = rng.range(3, 6);
                 match make::breaking(rng, wanted, n, 4) {
                     Some(part) => part,
@@ -219,7 +295,7 @@ mod tests {
     fn fills(records: &[Vec<u8>], names: &[String], minimum: usize) {
         let mut tally = tally_of(names, minimum);
         for bytes in records {
-            for name in category::of_record(bytes) {
+            for name in category::of_record(bytes).into_iter().chain(category_label::of_record(bytes)) {
                 tally.count_if_known(&name);
             }
         }
@@ -232,8 +308,21 @@ mod tests {
         fills(&refused(&mut rng, 5), &category::refused_names(), 5);
         fills(&breaking(&mut rng, 5), &category::break_names(), 5);
         fills(&passing(&mut rng, 3), &category::pass_names(), 3);
+        fills(&mislabelled(&mut rng, 5), &category_label::names(), 5);
         let quiet_names = [category::QUIET_IGNORED.to_string(), category::QUIET_REMOVED.to_string()];
         fills(&quiet(&mut rng, 5), &quiet_names, 5);
+    }
+
+    #[test]
+    fn each_bad_level_comes_up() {
+        let mut rng = Rng::new(65);
+        let mut tally = tally_of(&category_label::EACH_BAD_LEVEL.map(str::to_string), 63);
+        for bytes in mislabelled(&mut rng, 0) {
+            if let Some((name, level)) = category_label::each_bad_level(&bytes) {
+                tally.count_value(name, level);
+            }
+        }
+        assert!(tally.too_few().is_empty(), "{:?}", tally.too_few());
     }
 
     #[test]

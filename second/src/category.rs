@@ -1,9 +1,9 @@
 //! Categories of inputs, by the checker's own verdict, and how often each came up.
 
 use crate::check::{self, Verdict};
-use crate::record::{self, incomparable, Part};
+use crate::record::{self, incomparable, Part, ORDER};
 use crate::wrong;
-use std::collections::BTreeMap;
+use std::collections::{BTreeMap, BTreeSet};
 
 /// Counts by category, each with the least number that a run must reach.
 #[derive(Default)]
@@ -11,6 +11,7 @@ pub struct Tally {
     order: Vec<String>,
     counts: BTreeMap<String, usize>,
     minimums: BTreeMap<String, usize>,
+    values: BTreeSet<(String, u8)>,
 }
 
 impl Tally {
@@ -37,6 +38,13 @@ impl Tally {
     pub fn count_if_known(&mut self, name: &str) {
         if let Some(count) = self.counts.get_mut(name) {
             *count += 1;
+        }
+    }
+
+    /// Counts a value of a known category; one that came up before does not count again.
+    pub fn count_value(&mut self, name: &str, value: u8) {
+        if self.values.insert((name.to_string(), value)) {
+            self.count(name);
         }
     }
 
@@ -266,7 +274,7 @@ pub fn wrong_readings_of(bytes: &[u8]) -> Vec<String> {
 }
 
 pub fn refused_names() -> Vec<String> {
-    (1..=8).map(|number| format!("refused {}", number)).collect()
+    ORDER.iter().map(|number| format!("refused {}", number)).collect()
 }
 
 pub fn break_names() -> Vec<String> {

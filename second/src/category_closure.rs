@@ -2,7 +2,7 @@
 
 use crate::check::{self, Verdict};
 use crate::closure::{self, ClosureAnswer, PIECE};
-use crate::record::{self, Part};
+use crate::record::{self, Part, ORDER};
 use crate::wrong_closure::{self, DISTANCES, LONGEST_WAY, ORDERS, STEPS};
 
 /// Is this a category that must come up most often?
@@ -24,7 +24,7 @@ const MOST_STATES_LONGEST_WAY: usize = 5;
 /// Every category.
 pub fn names() -> Vec<String> {
     let mut names = Vec::new();
-    for number in 1..=8 {
+    for number in ORDER {
         names.push(format!("refused {}", number));
         names.push(format!("refused {}, no room either", number));
         names.push(format!("refused {}, room for 64 states", number));

@@ -2,7 +2,7 @@
 
 use crate::check::{self, Break, Verdict};
 use crate::explain::{sum_of_sizes, ExplainAnswer, Explanation, EXPLANATION};
-use crate::record::{self, Part};
+use crate::record::{self, Part, ORDER};
 use crate::wrong_closure::{self, STEPS};
 use crate::wrong_count::{self, COUNTS};
 
@@ -20,7 +20,7 @@ const MOST_STATES_MISREAD: usize = 24;
 /// Every category.
 pub fn names() -> Vec<String> {
     let mut names = Vec::new();
-    for number in 1..=8 {
+    for number in ORDER {
         names.push(format!("refused {}", number));
         names.push(format!("refused {}, no room either", number));
         names.push(format!("refused {}, 64 bytes or more", number));

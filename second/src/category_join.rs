@@ -2,7 +2,7 @@
 
 use crate::check::{self, Verdict};
 use crate::join::{self, JoinAnswer, Side};
-use crate::record::{self, incomparable, Kind, Part};
+use crate::record::{self, incomparable, Kind, Part, ORDER};
 
 /// Is this a category that must come up most often?
 pub fn is_main(name: &str) -> bool {
@@ -27,7 +27,7 @@ fn kind_name(kind: Kind) -> &'static str {
 pub fn names() -> Vec<String> {
     let mut names = Vec::new();
     for side in ["A", "B"] {
-        for number in 1..=8 {
+        for number in ORDER {
             names.push(format!("{} refused {}", side, number));
         }
         for rule in 1..=5 {

@@ -34,7 +34,9 @@ pub fn names() -> Vec<String> {
         "load refused 15, one byte short",
         "load, just enough room",
         "load refused 12, the record refused or broken too",
-        "load refused 1 to 8, no room either",
+        "load refused 12, the record mislabelled too",
+        "load refused for its record, no room either",
+        "load refused 16, no room either",
         "load breaks, no room either",
         "hookup",
         "hookup, i = j",
@@ -193,6 +195,9 @@ fn operation_names(capacity: usize, held: &mut Vec<Held>, done: &Done) -> Vec<St
                 if verdict != Verdict::Pass {
                     names.push("load refused 12, the record refused or broken too".to_string());
                 }
+                if verdict == Verdict::Refused(16) {
+                    names.push("load refused 12, the record mislabelled too".to_string());
+                }
                 return names;
             }
             match answer {
@@ -210,7 +215,12 @@ fn operation_names(capacity: usize, held: &mut Vec<Held>, done: &Done) -> Vec<St
                     }
                     return names;
                 }
-                Answer::Refused(_) if no_room => names.push("load refused 1 to 8, no room either".to_string()),
+                Answer::Refused(number) if no_room => {
+                    names.push("load refused for its record, no room either".to_string());
+                    if *number == 16 {
+                        names.push("load refused 16, no room either".to_string());
+                    }
+                }
                 Answer::Breaks(_) if no_room => names.push("load breaks, no room either".to_string()),
                 _ => {}
             }

@@ -14,29 +14,35 @@ pub fn p() -> Vec<u8> {
     bytes
 }
 
-pub fn p_with_classes_0_1() -> Vec<u8> {
+/// P with some bytes changed, each given with its offset.
+pub fn p_with(changes: &[(usize, u8)]) -> Vec<u8> {
     let mut bytes = p();
-    bytes[11] = 1;
+    for &(at, byte) in changes {
+        bytes[at] = byte;
+    }
     bytes
+}
+
+pub fn p_with_classes_0_1() -> Vec<u8> {
+    p_with(&[(11, 1)])
 }
 
 pub fn p_event_1_stepless_in_1() -> Vec<u8> {
-    let mut bytes = p();
-    bytes[28] = 0;
-    bytes
+    p_with(&[(28, 0)])
 }
 
 pub fn p_event_2_stepless_in_1() -> Vec<u8> {
-    let mut bytes = p();
-    bytes[44] = 0;
-    bytes
+    p_with(&[(44, 0)])
 }
 
 /// P with event 2 internal, which is P joined with Q.
 pub fn p_with_event_2_internal() -> Vec<u8> {
-    let mut bytes = p();
-    bytes[18] = 2;
-    bytes
+    p_with(&[(18, 2)])
+}
+
+/// P with 0x01 as the level of event 2, for request d.
+pub fn p_mislabelled() -> Vec<u8> {
+    p_with(&[(19, 0x01)])
 }
 
 fn t(kind: Kind, level: u8) -> Part {

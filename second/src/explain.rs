@@ -24,7 +24,7 @@ pub struct Explanation {
 pub enum ExplainAnswer {
     /// The part passes or breaks a rule, and this was written.
     Explained(Explanation),
-    /// 1 to 8, or 15.
+    /// A refusal of the record, or 15.
     Refused(u32),
 }
 
@@ -107,7 +107,7 @@ fn explanation_bytes(explanation: Explanation) -> Vec<u8> {
     bytes
 }
 
-/// The C header, the whole call: 1 to 8, then 15. The explanation goes to the buffer's start.
+/// The C header, the whole call: the refusals of the record, then 15. The explanation goes to the buffer's start.
 pub fn explain(bytes: &[u8], out: &mut [u8]) -> ExplainAnswer {
     let (verdict, taken) = check_and_count(bytes);
     let explanation = match verdict {
@@ -170,6 +170,7 @@ mod tests {
         let last = stray.len() - 1;
         stray[last] = 0x80;
         assert_eq!(check_and_count(&stray), (Verdict::Refused(8), 0));
+        assert_eq!(check_and_count(&examples::p_mislabelled()), (Verdict::Refused(16), 0));
     }
 
     /// States 0 and 1 in one class, 2 in another; high outputs lead from 0 to 1 and from 1 to 2. The quiet reaches have
@@ -257,11 +258,13 @@ mod tests {
     #[test]
     fn numbers_of_more_than_a_byte() {
         let mut bytes = examples::p_with_classes_0_1();
-        // Observer 0x3F, and event 1 gets identifier 0x0201, which is above that of event 2: so that gets 0x0202.
-        bytes[6] = 0x3F;
+        // Observer 0x41, and 0x80 as event 1's level, so that it stays high. Event 1 gets identifier 0x0201, which is
+        // above that of event 2: so that gets 0x0202.
+        bytes[6] = 0x41;
+        bytes[15] = 0x80;
         bytes[12..14].copy_from_slice(&[1, 2]);
         bytes[16..18].copy_from_slice(&[2, 2]);
-        assert_eq!(explained(&bytes), [2, 0x0201, 0, 1, 0, 0, 0x3F, 0]);
+        assert_eq!(explained(&bytes), [2, 0x0201, 0, 1, 0, 0, 0x41, 0]);
         bytes[11] = 0;
         assert_eq!(explained(&bytes), [0, 0, 0, 0, 0, 2, 0, 1]);
 
@@ -281,6 +284,8 @@ mod tests {
         stray[51] = 0x80;
         assert_eq!(number(explain(&stray, &mut out)), 8);
         assert_eq!(number(explain(&stray, &mut [])), 8);
+        assert_eq!(number(explain(&examples::p_mislabelled(), &mut out)), 16);
+        assert_eq!(number(explain(&examples::p_mislabelled(), &mut [])), 16);
         assert_eq!(number(explain(&p, &mut [])), 15);
         assert_eq!(number(explain(&broken, &mut [])), 15);
         assert_eq!(explain(&p, &mut out[1..]), ExplainAnswer::Refused(15));

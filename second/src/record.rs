@@ -1,5 +1,5 @@
-//! The part record: its bytes, its fields, refusals 1 to 8.
-//! Document 01, "Levels", "The part record", "Refusals out of the input".
+//! The part record: its bytes, its fields, refusals 1 to 8 and 16.
+//! Document 01, "Levels", "The part record", "Refusals out of the input"; document 02, request d.
 
 /// The kind of an event.
 #[derive(Clone, Copy, PartialEq, Eq, Debug)]
@@ -121,6 +121,11 @@ pub fn incomparable(a: u8, b: u8) -> bool {
     !at_or_below(a, b) && !at_or_below(b, a)
 }
 
+/// Request d: a rank 0 level with a compartment bit.
+pub fn is_mislabelled(level: u8) -> bool {
+    rank(level) == 0 && (0..6).any(|bit| has_compartment(level, bit))
+}
+
 /// Two bytes at an offset, little-endian.
 pub fn u16_at(bytes: &[u8], offset: usize) -> u16 {
     bytes[offset] as u16 + 256 * bytes[offset + 1] as u16
@@ -150,6 +155,10 @@ pub fn class_at(s: usize) -> usize {
 
 pub fn entry_at(n: usize, e: usize) -> usize {
     10 + n + 4 * e
+}
+
+pub fn level_at(n: usize, e: usize) -> usize {
+    entry_at(n, e) + 3
 }
 
 pub fn row_at(n: usize, m: usize, e: usize, s: usize) -> usize {
@@ -233,6 +242,21 @@ pub fn refusal_7(bytes: &[u8]) -> bool {
     false
 }
 
+/// Refusal 16: such a level as the observer or in an event.
+pub fn refusal_16(bytes: &[u8]) -> bool {
+    let n = bytes[STATE_COUNT_AT] as usize;
+    let m = bytes[EVENT_COUNT_AT] as usize;
+    if is_mislabelled(bytes[OBSERVER_AT]) {
+        return true;
+    }
+    for e in 0..m {
+        if is_mislabelled(bytes[level_at(n, e)]) {
+            return true;
+        }
+    }
+    false
+}
+
 /// Refusal 8.
 pub fn refusal_8(bytes: &[u8]) -> bool {
     let n = bytes[STATE_COUNT_AT] as usize;
@@ -249,40 +273,45 @@ pub fn refusal_8(bytes: &[u8]) -> bool {
     false
 }
 
-/// "Order": the first of the refusals 1 to 8 that applies.
+/// "Order" and request d: the refusals of a record, in the order in which they are tested.
+pub const ORDER: [u32; 9] = [1, 2, 3, 4, 5, 6, 7, 16, 8];
+
+/// Does the refusal of this number apply? Of 1 to 5, those before it must not.
+pub fn applies(number: u32, bytes: &[u8]) -> bool {
+    match number {
+        1 => refusal_1(bytes),
+        2 => refusal_2(bytes),
+        3 => refusal_3(bytes),
+        4 => refusal_4(bytes),
+        5 => refusal_5(bytes),
+        6 => refusal_6(bytes),
+        7 => refusal_7(bytes),
+        16 => refusal_16(bytes),
+        8 => refusal_8(bytes),
+        _ => unreachable!(),
+    }
+}
+
+/// The first refusal that applies.
 pub fn first_refusal(bytes: &[u8]) -> Option<u32> {
-    if refusal_1(bytes) {
-        return Some(1);
-    }
-    if refusal_2(bytes) {
-        return Some(2);
-    }
-    if refusal_3(bytes) {
-        return Some(3);
-    }
-    if refusal_4(bytes) {
-        return Some(4);
-    }
-    if refusal_5(bytes) {
-        return Some(5);
-    }
-    if refusal_6(bytes) {
-        return Some(6);
-    }
-    if refusal_7(bytes) {
-        return Some(7);
-    }
-    if refusal_8(bytes) {
-        return Some(8);
+    for number in ORDER {
+        if applies(number, bytes) {
+            return Some(number);
+        }
     }
     None
 }
 
 /// Reads a record: its fields, or the first refusal.
 pub fn read(bytes: &[u8]) -> Result<Part, u32> {
-    if let Some(number) = first_refusal(bytes) {
-        return Err(number);
+    match first_refusal(bytes) {
+        Some(number) => Err(number),
+        None => Ok(fields(bytes)),
     }
+}
+
+/// The fields of a record that refusals 1 to 7 leave alone; bits of rows at n and above are left out.
+pub fn fields(bytes: &[u8]) -> Part {
     let n = bytes[STATE_COUNT_AT] as usize;
     let m = bytes[EVENT_COUNT_AT] as usize;
     let mut classes = Vec::new();
@@ -297,7 +326,7 @@ pub fn read(bytes: &[u8]) -> Result<Part, u32> {
             1 => Kind::Output,
             _ => Kind::Internal,
         };
-        events.push(Event { identifier: u16_at(bytes, at), kind, level: bytes[at + 3] });
+        events.push(Event { identifier: u16_at(bytes, at), kind, level: bytes[level_at(n, e)] });
     }
     let mut part = Part::without_steps(bytes[OBSERVER_AT], bytes[START_AT] as usize, classes, events);
     for e in 0..m {
@@ -307,7 +336,7 @@ pub fn read(bytes: &[u8]) -> Result<Part, u32> {
             }
         }
     }
-    Ok(part)
+    part
 }
 
 pub fn push_u16(bytes: &mut Vec<u8>, number: u16) {
@@ -434,5 +463,63 @@ mod tests {
         assert_eq!(changed(18, 255), Some(7));
         assert_eq!(changed(20, 6), Some(8));
         assert_eq!(changed(51, 0x80), Some(8));
+    }
+
+    /// 63 of the 256 levels: 0x01 to 0x3F.
+    #[test]
+    fn mislabelled_levels() {
+        for level in [0x01, 0x02, 0x04, 0x08, 0x10, 0x20, 0x21, 0x3E, 0x3F] {
+            assert!(is_mislabelled(level));
+        }
+        for level in [0x00, 0x40, 0x41, 0x7F, 0x80, 0x81, 0xBF, 0xC0, 0xC1, 0xFF] {
+            assert!(!is_mislabelled(level));
+        }
+        assert_eq!((0..=255).filter(|&level| is_mislabelled(level)).count(), 63);
+    }
+
+    /// P with another observer, or with another level of its first or its last event.
+    #[test]
+    fn mislabelled_records() {
+        for at in [OBSERVER_AT, level_at(2, 0), level_at(2, 1)] {
+            for (level, refusal) in
+                [(0x01, Some(16)), (0x20, Some(16)), (0x3F, Some(16)), (0x00, None), (0x40, None), (0x41, None)]
+            {
+                let mut bytes = examples::p();
+                bytes[at] = level;
+                assert_eq!(first_refusal(&bytes), refusal);
+                assert_eq!(read(&bytes).err(), refusal);
+            }
+        }
+        // Z has no event to look at.
+        let mut z = examples::z();
+        z[OBSERVER_AT] = 0x01;
+        assert_eq!(first_refusal(&z), Some(16));
+        z[OBSERVER_AT] = 0x41;
+        assert_eq!(first_refusal(&z), None);
+    }
+
+    /// Every damage is in place; they are taken away from the first one on.
+    #[test]
+    fn order_of_refusals() {
+        let p = examples::p();
+        let mut bytes = p.clone();
+        // A stray bit, a bad level, a kind above 2, a class too high, 33 events, kind 0, a wrong length.
+        for (at, byte) in [(51, 0x80), (19, 0x3F), (14, 3), (10, 1), (9, 33), (4, 0), (0, 0x2D)] {
+            bytes[at] = byte;
+        }
+        for (number, at) in [(2, 0), (3, 4), (4, 9), (6, 10), (7, 14), (16, 19), (8, 51)] {
+            assert_eq!(first_refusal(&bytes), Some(number));
+            bytes[at] = p[at];
+        }
+        assert_eq!(bytes, p);
+        // One event too few for the length, and a class too high or a bad observer.
+        bytes[9] = 1;
+        bytes[10] = 1;
+        bytes[OBSERVER_AT] = 0x01;
+        assert_eq!(first_refusal(&bytes), Some(5));
+        bytes[9] = 2;
+        assert_eq!(first_refusal(&bytes), Some(6));
+        bytes[10] = 0;
+        assert_eq!(first_refusal(&bytes), Some(16));
     }
 }

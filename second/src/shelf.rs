@@ -150,6 +150,7 @@ mod tests {
         let mut five = vec![0; 5];
         assert_eq!(clear(&mut five), Answer::Refused(12));
         assert_eq!(load(&mut five, &[]), Answer::Refused(12));
+        assert_eq!(load(&mut five, &examples::p_mislabelled()), Answer::Refused(12));
         assert_eq!(hookup(&mut five, 0, 0), Answer::Refused(12));
         assert_eq!(count(&five), None);
         assert!(part(&five, 0).is_empty());
@@ -158,6 +159,7 @@ mod tests {
         assert_eq!(clear(&mut six), Answer::Cleared);
         assert_eq!(count(&six), Some(0));
         assert_eq!(load(&mut six, &[]), Answer::Refused(1));
+        assert_eq!(load(&mut six, &examples::p_mislabelled()), Answer::Refused(16));
         assert_eq!(load(&mut six, &examples::p_with_classes_0_1()), answer_of_p_0_1());
         assert_eq!(load(&mut six, &examples::z()), Answer::Refused(15));
         assert_eq!(hookup(&mut six, 0, 0), Answer::Refused(13));
@@ -203,6 +205,9 @@ mod tests {
         assert_eq!(hookup(&mut shelf, 0, 2), Answer::Refused(13));
         assert_eq!(shelf, before);
         shelf[11] = 0;
+        shelf[19] = 0x01;
+        assert_eq!(hookup(&mut shelf, 0, 1), Answer::Refused(14));
+        shelf[19] = 0;
         assert_eq!(hookup(&mut shelf, 0, 1), Answer::Part(2));
         assert_eq!(part(&shelf, 2), &examples::p_with_event_2_internal()[..]);
         assert_eq!(hookup(&mut shelf, 0, 0), Answer::Clash(1));

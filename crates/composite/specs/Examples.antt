@@ -84,6 +84,7 @@ table =
     ∷ line (set P 11 1) (take 5 P) 0 (unfit first-record (broken-at 2 1 0 1 0))
     ∷ line (take 5 P) (set P 11 1) 0 (unfit first-record (refused 1))
     ∷ line P (set Q 4 2) 0 (unfit second-record (refused 3))
+    ∷ line P (set Q 14 0x01) 0 (unfit second-record (refused 16))
     -- 9 before 10: Q for another observer, with an input in the place of P's event 1
     ∷ line P (set Q 6 0x40) 52 (stopped (refusal 9))
     ∷ line P (set (set Q 6 0x40) 11 1) 52 (stopped (refusal 9))

@@ -45,11 +45,11 @@ at-or-below-iff a b = (to, from)
 -- ---- the comparison that the code makes: the ranks, and whether the common compartments are all of a's
 
 -- a compartment of the byte is one of its set of compartments
-inside : (x c : ℕ) → c < 6 → bit (compartments x) c ≡ bit x c
+pub inside : (x c : ℕ) → c < 6 → bit (compartments x) c ≡ bit x c
 unfolding compartments
 inside x c h = bit-mod 6 x c h
 
-small : (x : ℕ) → compartments x < 2 ^ 6
+pub small : (x : ℕ) → compartments x < 2 ^ 6
 unfolding compartments
 small x = mod-lt x (lit< tt)
 

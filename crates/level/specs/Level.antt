@@ -1,8 +1,9 @@
 -- Levels (document 01, "Levels"): one byte, with a rank in bits 7 and 6 and compartments in bits 5 to 0.
 use Prim.Native.Nat.{ℕ, _/_, _%_, _≤_, _<_}
+use mathlib.Core.Path.{_≡_}
 use mathlib.Core.Bool.{Bool, not, _||_, _&&_}
-use lib.Dec.{T, leb}
-use Rattle.bounded.specs.Search.{all}
+use lib.Dec.{T, leb, eqb}
+use Rattle.bounded.specs.Search.{any, all}
 use Rattle.words.specs.Sets.{bit}
 
 -- The rank, 0 to 3.
@@ -25,3 +26,12 @@ at-or-below a b = leb (rank a) (rank b) && all 6 (λ c. not (bit a c) || bit b c
 -- A level is low for an observer's level where it is at or below it, and otherwise high: incomparable is high.
 unfoldable pub low : ℕ → ℕ → Bool
 low observer a = at-or-below a observer
+
+-- Level a is mislabelled: its rank is 0, and it has a compartment (document 02, d).
+pub record Mislabelled (a : ℕ) : Type 0 where
+  pub lowest : rank a ≡ 0
+  pub compartment : (c : ℕ) × (c < 6) × T (bit a c)
+
+-- The same as a test.
+unfoldable pub mislabelled : ℕ → Bool
+mislabelled a = eqb (rank a) 0 && any 6 (bit a)

@@ -1,7 +1,7 @@
 // The level byte (document 01, "Levels"). Its limits and its functions belong to the type.
 ghost use mathlib.Core.Path.{_≡_};
 ghost use Prim.Native.Nat.{_<_};
-ghost use Rattle.level.specs.Level.{rank, compartments, at-or-below, low};
+ghost use Rattle.level.specs.Level.{rank, compartments, at-or-below, low, mislabelled};
 
 pub struct Level;
 
@@ -48,5 +48,14 @@ impl Level {
         ensures { λ r. ⌜ r ≡ low observer level ⌝ }
     {
         Level::at_or_below(level, observer)
+    }
+
+    pub fn is_mislabelled(level: u8) -> bool
+        ensures { λ r. ⌜ r ≡ mislabelled level ⌝ }
+    {
+        if Level::rank(level) != 0 {
+            return false;
+        }
+        Level::compartments(level) != 0
     }
 }

@@ -10,8 +10,8 @@ use native.Mathlib.Omega.{arith}
 use Rattle.bounded.specs.Search.{or-else}
 use Rattle.bounded.proofs.Search.{true-or-false}
 use Rattle.part.specs.Rejections.{too-short, wrong-length, wrong-kind, out-of-range, wrong-size, misnumbered}
-use Rattle.part.specs.Rejections.{misordered, stray-bit, Condition, frame-conditions, content-conditions}
-use Rattle.part.specs.Rejections.{first-of, rejection, NoneOf, Accepted}
+use Rattle.part.specs.Rejections.{misordered, mislabelled-part, stray-bit, Condition, frame-conditions}
+use Rattle.part.specs.Rejections.{content-conditions, first-of, rejection, NoneOf, Accepted}
 
 -- ---- the first condition that holds
 
@@ -92,6 +92,9 @@ module _ (b : List ℕ) (a : Accepted b) where
 
   pub not-misordered : misordered b ≡ false
   not-misordered = search
+
+  pub not-mislabelled : mislabelled-part b ≡ false
+  not-mislabelled = search
 
   pub not-stray : stray-bit b ≡ false
   not-stray = search

@@ -11,12 +11,14 @@ use lib.Pow.{pow-mono}
 use borrow.Author.Tests.{le-ltb, lt-leb, eq-eqb}
 use Rattle.bounded.proofs.Search.{any-fails, or-then}
 use Rattle.words.specs.Sets.{exceeds}
+use Rattle.level.specs.Level.{mislabelled}
 use Rattle.part.specs.Format.{max-states, max-events, max-event-kind, header, body-size}
 use Rattle.part.specs.Record.{body-length, states, start, events, counts, column, class, classes-below}
 use Rattle.part.specs.Record.{identifier, event-kind, row}
 use Rattle.part.specs.Rejections.{too-short, wrong-length, wrong-kind, out-of-range, wrong-size, misnumbered}
 use Rattle.part.specs.Rejections.{unnumbered, skips-at, misordered, falling, falls-at, unknown-kind, unknown-at}
-use Rattle.part.specs.Rejections.{stray-bit, row-strays, strays-at, frame-conditions, NoneOf, Accepted}
+use Rattle.part.specs.Rejections.{mislabelled-part, mislabelled-at, stray-bit, row-strays, strays-at}
+use Rattle.part.specs.Rejections.{frame-conditions, NoneOf, Accepted}
 use Rattle.part.specs.Layout.{Fields, counts-of, layout}
 use Rattle.part.specs.Frame.{fields-of}
 use Rattle.part.proofs.Fields.{few-rows, column-size}
@@ -39,6 +41,8 @@ pub record Proper (f : Fields) : Type 0 where
   pub identifier-fits : (i : ℕ) → i < f .table .events → f .table .identifier i < 65536
   pub kinds : (i : ℕ) → i < f .table .events → f .table .event-kind i ≤ max-event-kind
   pub level-fits : (i : ℕ) → i < f .table .events → f .table .level i < 256
+  pub observer-labelled : mislabelled (f .observer .level) ≡ false
+  pub events-labelled : (i : ℕ) → i < f .table .events → mislabelled (f .table .level i) ≡ false
   pub rows : (i s : ℕ) → i < f .table .events → s < f .table .states → f .table .row i s < 2 ^ f .table .states
 
 -- ---- room
@@ -159,6 +163,15 @@ module _ (f : Fields) (p : Proper f) where
   unfolding misordered
   ordered = or-then _ _ rising ∙ known
 
+  labelled : mislabelled-part (layout f) ≡ false
+  unfolding mislabelled-part mislabelled-at
+  labelled =
+      or-then _ _ (ap mislabelled (agree .observers) ∙ p .observer-labelled)
+      ∙ any-fails _ _
+      (λ i l.
+      let m : events (layout f) ≡ f .table .events = agree .tables .event-counts in
+      ap mislabelled (agree .tables .levels i (omega arith)) ∙ p .events-labelled i (omega arith))
+
   no-strays : stray-bit (layout f) ≡ false
   unfolding stray-bit row-strays strays-at exceeds
   no-strays =
@@ -171,4 +184,4 @@ module _ (f : Fields) (p : Proper f) where
       lt-leb (2 ^ states (layout f)) (row (layout f) i s) (rw (n, r) (p .rows i s (omega arith) (omega arith)))))
 
 pub proper-accepted : (f : Fields) → Proper f → Accepted (layout f)
-proper-accepted f p = search (frame-clear f p, numbered f p, ordered f p, no-strays f p)
+proper-accepted f p = search (frame-clear f p, numbered f p, ordered f p, labelled f p, no-strays f p)

@@ -9,18 +9,23 @@ use native.Mathlib.Omega.{arith}
 use lib.Dec.{T}
 use lib.ListN.{length}
 use borrow.Author.Tests.{leb-false, ltb-false}
+use Rattle.bounded.specs.Search.{any}
 use Rattle.bounded.proofs.Search.{or-left, or-right, any-none, true-not-false, passed}
 use Rattle.words.specs.LittleEndian.{byte}
 use Rattle.words.specs.Sets.{bit, exceeds}
 use Rattle.words.proofs.Sets.{within-members}
+use Rattle.level.specs.Level.{mislabelled}
+use Rattle.level.proofs.Labels.{labelled}
 use Rattle.part.specs.Format.{max-event-kind}
-use Rattle.part.specs.Record.{states, events, column, class, classes-below, identifier, event-kind, row}
+use Rattle.part.specs.Record.{observer, states, events, column, class, classes-below, identifier, event-kind}
+use Rattle.part.specs.Record.{level, row}
 use Rattle.part.specs.Frame.{Framed}
 use Rattle.part.specs.Rejections.{Accepted, misnumbered, unnumbered, skips-at, misordered, falling, falls-at}
-use Rattle.part.specs.Rejections.{unknown-kind, unknown-at, stray-bit, row-strays, strays-at}
+use Rattle.part.specs.Rejections.{unknown-kind, unknown-at, mislabelled-part, mislabelled-at, stray-bit}
+use Rattle.part.specs.Rejections.{row-strays, strays-at}
 use Rattle.part.specs.MachineFacts.{start-below}
 use Rattle.part.specs.Theorems.{Ranges}
-use Rattle.part.proofs.Accepted.{in-frame, not-misnumbered, not-misordered, not-stray}
+use Rattle.part.proofs.Accepted.{in-frame, not-misnumbered, not-misordered, not-mislabelled, not-stray}
 use Rattle.part.proofs.Fields.{column-size}
 use Rattle.part.proofs.Rejections.{framed}
 use Rattle.part.proofs.Rising.{Rises, rises}
@@ -84,6 +89,16 @@ module _ (b : List ℕ) (a : Accepted b) where
   unfolding misordered unknown-kind unknown-at
   kinds i h = ltb-false _ _ (any-none (unknown-at b) _ (or-right (falling b) _ (not-misordered b a)) i h)
 
+  -- ---- the levels
+
+  pub observer-labelled : mislabelled (observer b) ≡ false
+  unfolding mislabelled-part
+  observer-labelled = or-left _ (any (events b) (mislabelled-at b)) (not-mislabelled b a)
+
+  pub event-labelled : (i : ℕ) → i < events b → mislabelled (level b i) ≡ false
+  unfolding mislabelled-part mislabelled-at
+  event-labelled = any-none (mislabelled-at b) _ (or-right (mislabelled (observer b)) _ (not-mislabelled b a))
+
   -- ---- the rows
 
   pub row-within : (i s : ℕ) → i < events b → s < states b → exceeds (states b) (row b i s) ≡ false
@@ -114,5 +129,7 @@ ranges b a = record {
   class-next = λ s h. let r = largest-class (column b) s in (r .0, r .1, omega (arith, class-step b a (suc s) h));
   identifiers-rise = identifiers-rise b a;
   kinds = kinds b a;
+  observer-labelled = labelled _ (observer-labelled b a);
+  events-labelled = λ i h. labelled _ (event-labelled b a i h);
   row-members = row-members b a;
 }

@@ -52,16 +52,26 @@ table =
     ∷ resetting 1 32 is 0
     ∷ set P 7 3 is 5
     ∷ set (set P 7 3) 10 1 is 5
-    -- 6: state 0 not of class 0, a class skipped; 7: equal and falling identifiers, a kind of 3; 8: a bit at n; each before the next
+    -- 6: state 0 not of class 0, a class skipped; 7: equal and falling identifiers, a kind of 3
     ∷ set P 10 1 is 6
     ∷ set P 11 2 is 6
     ∷ set P 11 1 is 0
     ∷ set P 16 1 is 7
     ∷ set P 12 3 is 7
     ∷ set P 14 3 is 7
+    -- 16: rank 0 with a compartment as the observer, in the first event, in the last; but rank 1 with one, and rank 0 without one
+    ∷ set P 6 0x01 is 16
+    ∷ set P 15 0x01 is 16
+    ∷ set P 19 0x3F is 16
+    ∷ set P 6 0x41 is 0
+    ∷ set P 19 0x41 is 0
+    ∷ set P 15 0x00 is 0
+    -- 8: a bit at n; each before the next: 6, 7, 16, 8
     ∷ set P 20 4 is 8
     ∷ set P 51 0x80 is 8
     ∷ set (set P 11 2) 12 2 is 6
+    ∷ set (set P 18 3) 15 0x01 is 7
+    ∷ set (set P 19 0x01) 20 4 is 16
     ∷ set (set P 18 3) 20 4 is 7
     ∷ []
 

@@ -1,13 +1,17 @@
 -- Words in which functions that read a record say what they need of it. No promise of a call rests on this page.
 use Prim.Native.Nat.{ℕ, _≤_, _<_}
 use mathlib.Core.Path.{_≡_}
+use mathlib.Core.Bool.{Bool}
 use mathlib.Core.List.{List}
 use mathlib.Core.Option.{none, some}
 use lib.ListN.{length}
+use Rattle.part.specs.declared.rejection.Fault.{Fault}
+use Rattle.part.specs.declared.rejection.Fault.the-variants.{UnknownKind, Mislabelled, StrayBit}
 use Rattle.part.specs.declared.format.Counts.{Counts}
 use Rattle.part.specs.Format.{max-states, max-events, record-size}
 use Rattle.part.specs.Events.{place}
 use Rattle.part.specs.Layout.{Table, Fields}
+use Rattle.part.specs.Rejections.{unknown-at, mislabelled-at, row-strays}
 use Rattle.part.specs.Record.{
   states,
   start,
@@ -58,3 +62,9 @@ fields-of b = record { table = table-of b; observer = observer-of b }
 -- The place of the event with identifier e, or the number of events where it has none.
 unfoldable pub place-or-end : List ℕ → ℕ → ℕ
 place-or-end b e = elim (place b e) [ none ↦ events b | some i ↦ i ]
+
+-- The event at place i has the fault that a condition asks about.
+abbrev pub has-fault : Fault → List ℕ → ℕ → Bool
+has-fault UnknownKind = unknown-at
+has-fault Mislabelled = mislabelled-at
+has-fault StrayBit = row-strays

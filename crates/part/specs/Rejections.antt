@@ -1,4 +1,4 @@
--- The rejections of a record (document 01, "Refusals out of the input", 1 to 8).
+-- The rejections of a record (document 01, "Refusals out of the input", 1 to 8; document 02, d, 16).
 use Prim.Native.Nat.{ℕ, _+_, _-_}
 use mathlib.Core.Path.{_≡_}
 use mathlib.Core.Bool.{Bool, true, false, not, _||_}
@@ -9,8 +9,9 @@ use lib.Dec.{ltb, leb, eqb}
 use Rattle.bounded.specs.Search.{any}
 use Rattle.words.specs.Sets.{exceeds}
 use Rattle.words.specs.LittleEndian.{byte}
+use Rattle.level.specs.Level.{mislabelled}
 use Rattle.part.specs.Format.{max-states, max-events, part-kind, max-event-kind, header, body-size}
-use Rattle.part.specs.Record.{body-length, kind, states, start, events, counts, column, classes-below, identifier, event-kind, row}
+use Rattle.part.specs.Record.{body-length, kind, observer, states, start, events, counts, column, classes-below, identifier, event-kind, level, row}
 
 -- 1: fewer than six bytes.
 unfoldable pub too-short : List ℕ → Bool
@@ -67,6 +68,14 @@ unknown-kind b = any (events b) (unknown-at b)
 unfoldable pub misordered : List ℕ → Bool
 misordered b = falling b || unknown-kind b
 
+-- The level of the event at place i is mislabelled.
+unfoldable pub mislabelled-at : List ℕ → ℕ → Bool
+mislabelled-at b i = mislabelled (level b i)
+
+-- 16: the observer's level or the level of some event is mislabelled.
+unfoldable pub mislabelled-part : List ℕ → Bool
+mislabelled-part b = mislabelled (observer b) || any (events b) (mislabelled-at b)
+
 -- The row of the event at place i and of state s has a bit at n or above.
 unfoldable pub strays-at : List ℕ → ℕ → ℕ → Bool
 strays-at b i s = exceeds (states b) (row b i s)
@@ -98,6 +107,7 @@ abbrev pub content-conditions : List Condition
 content-conditions =
     record { number = 6; holds = misnumbered }
     ∷ record { number = 7; holds = misordered }
+    ∷ record { number = 16; holds = mislabelled-part }
     ∷ record { number = 8; holds = stray-bit }
     ∷ []
 

@@ -8,8 +8,9 @@ use lib.ListN.{length}
 use lib.Dec.{T}
 use Rattle.words.specs.Sets.{bit}
 use Rattle.words.specs.LittleEndian.{Bytes}
+use Rattle.level.specs.Level.{Mislabelled}
 use Rattle.part.specs.Format.{max-states, max-events, max-event-kind, record-size}
-use Rattle.part.specs.Record.{observer, states, start, events, counts, class, identifier, event-kind, row}
+use Rattle.part.specs.Record.{observer, states, start, events, counts, class, identifier, event-kind, level, row}
 use Rattle.part.specs.Rejections.{Accepted}
 use Rattle.part.specs.Events.{place, event-of, Leads}
 
@@ -26,6 +27,9 @@ pub record InRange (b : List ℕ) : Type 0 where
   pub class-next : (s : ℕ) → suc s < states b → (r : ℕ) × (r ≤ s) × (class b (suc s) ≤ suc (class b r))
   pub identifiers-rise : (i j : ℕ) → i < j → j < events b → identifier b i < identifier b j
   pub kinds : (i : ℕ) → i < events b → event-kind b i ≤ max-event-kind
+  -- neither the observer nor an event is mislabelled
+  pub observer-labelled : Mislabelled (observer b) → ⊥
+  pub events-labelled : (i : ℕ) → i < events b → Mislabelled (level b i) → ⊥
   pub row-members : (i s t : ℕ) → i < events b → s < states b → T (bit (row b i s) t) → t < states b
 
 -- Each event of an accepted record stands at one place, and is found there by its identifier.

@@ -9,6 +9,7 @@ pub enum Rejection {
     WrongSize,
     Misnumbered,
     Misordered,
+    Mislabelled,
     StrayBit,
 }
 

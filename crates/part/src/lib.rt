@@ -1,4 +1,4 @@
-// The part record (document 01, "The part record"): its limits, its fields, and the rejections 1 to 8.
+// The part record (document 01, "The part record"): its limits, its fields, and its rejections.
 pub mod answer;
 mod field;
 pub mod format;

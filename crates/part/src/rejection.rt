@@ -1,21 +1,30 @@
-// The rejections 1 to 8 of a record, in order (specs/Rejections.antt): one function for each condition, and two cascades.
+// The rejections of a record, in order (specs/Rejections.antt): one function for each condition, and two cascades.
 ghost use mathlib.Core.Path.{_≡_};
 ghost use Prim.Native.Nat.{_+_, _<_};
 ghost use mathlib.Core.Bool.{false};
 ghost use Rattle.part.specs.Record.{states, events};
-ghost use Rattle.part.specs.Frame.{Framed};
-ghost use Rattle.part.specs.Rejections.{too-short, wrong-length, wrong-kind, out-of-range, wrong-size, unnumbered, falls-at, falling, unknown-at, unknown-kind, misordered, row-strays, stray-bit, frame-conditions, content-conditions, first-of, rejection};
+ghost use Rattle.bounded.specs.Search.{any};
+ghost use Rattle.part.specs.Frame.{Framed, has-fault};
+ghost use Rattle.part.specs.Rejections.{too-short, wrong-length, wrong-kind, out-of-range, wrong-size, unnumbered, falls-at, falling, misordered, mislabelled-part, row-strays, stray-bit, frame-conditions, content-conditions, first-of, rejection};
 ghost use Rattle.part.specs.Answers.{number-of, rejection-of};
 use crate::answer::Rejection;
 use crate::answer::Screening;
 use crate::field::Part;
 use crate::field::classes_with;
 use crate::format::Counts;
+use level::Level;
 use words::le;
 use words::set;
 
+// What the conditions ask about each event.
+enum Fault {
+    UnknownKind,
+    Mislabelled,
+    StrayBit,
+}
+
 impl Rejection {
-    // The number of document 01.
+    // The number that the documents give it.
     pub fn number(self) -> u32
         ensures { λ k. ⌜ k ≡ number-of self ⌝ }
         ensures { λ k. ⌜ k < 100 ⌝ }
@@ -28,6 +37,7 @@ impl Rejection {
             Rejection::WrongSize => 5,
             Rejection::Misnumbered => 6,
             Rejection::Misordered => 7,
+            Rejection::Mislabelled => 16,
             Rejection::StrayBit => 8,
         }
     }
@@ -127,39 +137,6 @@ fn falling(b: &[u8]) -> bool
     false
 }
 
-fn unknown_at(b: &[u8], i: usize) -> bool
-    requires { ⌜ Framed (now b) ⌝ }
-    requires { ⌜ i < events (now b) ⌝ }
-    ensures { λ r. ⌜ r ≡ unknown-at (now (b .entry)) i ⌝ }
-{
-    Part::EVENT_KIND < Part::event_kind(b, i)
-}
-
-fn unknown_kind(b: &[u8]) -> bool
-    requires { ⌜ Framed (now b) ⌝ }
-    ensures { λ r. ⌜ r ≡ unknown-kind (now (b .entry)) ⌝ }
-{
-    let m = Part::events(b);
-    let mut i = 0;
-    while i < m {
-        if unknown_at(b, i) {
-            return true;
-        }
-        i += 1;
-    }
-    false
-}
-
-fn misordered(b: &[u8]) -> bool
-    requires { ⌜ Framed (now b) ⌝ }
-    ensures { λ r. ⌜ r ≡ misordered (now (b .entry)) ⌝ }
-{
-    if falling(b) {
-        return true;
-    }
-    unknown_kind(b)
-}
-
 // Some row of the event has a bit at n or above: the union of its rows has one.
 fn row_strays(b: &[u8], i: usize) -> bool
     requires { ⌜ Framed (now b) ⌝ }
@@ -176,6 +153,55 @@ fn row_strays(b: &[u8], i: usize) -> bool
     set::exceeds(n, found)
 }
 
+// The event at place i has the fault.
+fn has_fault(b: &[u8], i: usize, fault: Fault) -> bool
+    requires { ⌜ Framed (now b) ⌝ }
+    requires { ⌜ i < events (now b) ⌝ }
+    ensures { λ r. ⌜ r ≡ has-fault fault (now (b .entry)) i ⌝ }
+{
+    match fault {
+        Fault::UnknownKind => Part::EVENT_KIND < Part::event_kind(b, i),
+        Fault::Mislabelled => Level::is_mislabelled(Part::level(b, i)),
+        Fault::StrayBit => row_strays(b, i),
+    }
+}
+
+// Some event has the fault.
+fn some_fault(b: &[u8], fault: Fault) -> bool
+    requires { ⌜ Framed (now b) ⌝ }
+    ensures { λ r. ⌜ r ≡ any (events (now (b .entry))) (has-fault fault (now (b .entry))) ⌝ }
+{
+    let m = Part::events(b);
+    let mut i = 0;
+    while i < m {
+        if has_fault(b, i, fault) {
+            return true;
+        }
+        i += 1;
+    }
+    false
+}
+
+fn misordered(b: &[u8]) -> bool
+    requires { ⌜ Framed (now b) ⌝ }
+    ensures { λ r. ⌜ r ≡ misordered (now (b .entry)) ⌝ }
+{
+    if falling(b) {
+        return true;
+    }
+    some_fault(b, Fault::UnknownKind)
+}
+
+fn mislabelled(b: &[u8]) -> bool
+    requires { ⌜ Framed (now b) ⌝ }
+    ensures { λ r. ⌜ r ≡ mislabelled-part (now (b .entry)) ⌝ }
+{
+    if Level::is_mislabelled(Part::observer(b)) {
+        return true;
+    }
+    some_fault(b, Fault::Mislabelled)
+}
+
 // A row has no bit above 63.
 fn stray_bit(b: &[u8]) -> bool
     requires { ⌜ Framed (now b) ⌝ }
@@ -184,15 +210,7 @@ fn stray_bit(b: &[u8]) -> bool
     if Part::states(b) == Part::STATES {
         return false;
     }
-    let m = Part::events(b);
-    let mut i = 0;
-    while i < m {
-        if row_strays(b, i) {
-            return true;
-        }
-        i += 1;
-    }
-    false
+    some_fault(b, Fault::StrayBit)
 }
 
 // The rejections 1 to 5: header, counts and size.
@@ -217,7 +235,7 @@ fn screen_frame(b: &[u8]) -> Screening
     Screening::Accepted
 }
 
-// The rejections 6 to 8: classes, entries and rows.
+// The others: classes, entries and rows.
 fn screen_content(b: &[u8]) -> Screening
     requires { ⌜ Framed (now b) ⌝ }
     ensures { λ r. ⌜ rejection-of r ≡ first-of content-conditions (now (b .entry)) ⌝ }
@@ -227,6 +245,9 @@ fn screen_content(b: &[u8]) -> Screening
     }
     if misordered(b) {
         return Screening::Rejected(Rejection::Misordered);
+    }
+    if mislabelled(b) {
+        return Screening::Rejected(Rejection::Mislabelled);
     }
     if stray_bit(b) {
         return Screening::Rejected(Rejection::StrayBit);

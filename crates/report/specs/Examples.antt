@@ -15,6 +15,11 @@ pub refused-line : line (refused 7) ≡ 114 ∷ 101 ∷ 102 ∷ 117 ∷ 115 ∷ 
 unfolding line decimal digits
 refused-line = refl
 
+-- "refused 16"
+pub mislabelled-line : line (refused 16) ≡ 114 ∷ 101 ∷ 102 ∷ 117 ∷ 115 ∷ 101 ∷ 100 ∷ 32 ∷ 49 ∷ 54 ∷ 10 ∷ []
+unfolding line decimal digits
+mislabelled-line = refl
+
 -- "rule 2 event 1 from 0 to 1 other 0"
 pub rule-line : line (breaks (record { rule = 2; event = 1; s = 0; t = 1; u = 0 }))
     ≡ rule-text ++ (50 ∷ []) ++ event-text ++ (49 ∷ []) ++ from-text ++ (48 ∷ []) ++ to-text ++ (49 ∷ []) ++ other-text ++ (48 ∷ []) ++ line-end

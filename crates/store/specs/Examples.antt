@@ -4,7 +4,7 @@ use Prim.Native.Nat.{ℕ}
 use mathlib.Core.Bool.{Bool, true, false, _&&_}
 use mathlib.Core.List.{List, [], _∷_, flatten}
 use lib.Dec.{T, eqb}
-use lib.ListN.{replicate, take}
+use lib.ListN.{replicate, set, take}
 use Rattle.words.specs.Laid.{over}
 use Rattle.words.specs.LittleEndian.{number}
 use Rattle.part.specs.Record.{body-length, kind}
@@ -58,12 +58,12 @@ plainly n calls = answers n calls []
 abbrev calls : List Call
 calls =
     clear ∷ load P ∷ load Q ∷ hookup 0 1 ∷ hookup 1 2 ∷ hookup 0 0 ∷ hookup 2 7 ∷ load (take 5 P)
-    ∷ clear ∷ hookup 0 0 ∷ []
+    ∷ load (set Q 6 0x01) ∷ clear ∷ hookup 0 0 ∷ []
 
 -- Their answers.
 abbrev expected : List Answer
 expected =
-    gives 0 ∷ gives 0 ∷ gives 1 ∷ gives 2 ∷ clash 2 ∷ clash 1 ∷ refused 13 ∷ refused 1 ∷ gives 0 ∷ refused 13 ∷ []
+    gives 0 ∷ gives 0 ∷ gives 1 ∷ gives 2 ∷ clash 2 ∷ clash 1 ∷ refused 13 ∷ refused 1 ∷ refused 16 ∷ gives 0 ∷ refused 13 ∷ []
 
 all-so : Bool
 unfolding run plainly

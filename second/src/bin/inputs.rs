@@ -28,7 +28,7 @@ fn records(rng: &mut Rng) -> Vec<(&'static str, Vec<u8>)> {
     let (a, b) = make::joinable_pair(rng);
     let passing = record::write(&make::any_passing(rng));
     let mut damaged = passing.clone();
-    let refusal = rng.range(1, 8) as u32;
+    let refusal = rng.pick(&record::ORDER);
     make::damage(rng, &mut damaged, refusal);
     vec![
         ("joins-a", record::write(&a)),

@@ -7,7 +7,7 @@ use second::category::Tally;
 use second::check;
 use second::examples;
 use second::join;
-use second::make::{self, Wanted, PLACES};
+use second::make::{self, Wanted};
 use second::record::{self, Part};
 use second::rng::Rng;
 use second::traces::{self, Bounds, Counterexample};
@@ -170,13 +170,8 @@ fn broken(rng: &mut Rng, round: usize) -> Option<Part> {
         let part = make::small_passing(rng);
         return Some(make::changed_steps(rng, &part));
     }
-    let wanted = Wanted {
-        rule: rng.range(1, 5) as u32,
-        event: rng.pick(&PLACES),
-        s: rng.pick(&PLACES),
-        t: rng.pick(&PLACES),
-        u: rng.pick(&PLACES),
-    };
+    let rule = rng.range(1, 5) as u32;
+    let wanted = Wanted::anywhere(rng, rule);
     let n = rng.range(3, 5);
     let m = rng.range(3, 5);
     make::breaking(rng, wanted, n, m)

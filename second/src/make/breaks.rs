@@ -34,6 +34,13 @@ pub struct Wanted {
     pub u: Place,
 }
 
+impl Wanted {
+    /// A break of this rule at any places.
+    pub fn anywhere(rng: &mut Rng, rule: u32) -> Wanted {
+        Wanted { rule, event: rng.pick(&PLACES), s: rng.pick(&PLACES), t: rng.pick(&PLACES), u: rng.pick(&PLACES) }
+    }
+}
+
 /// A part of n states and m events (at least three of each) that is meant to break the wanted rule first, at the wanted
 /// places: a passing part with one step more, or for rule 1 with one row less. None where the places exclude
 /// each other.
@@ -208,13 +215,7 @@ mod tests {
         for rule in 1..=5 {
             let mut as_meant = 0;
             for _ in 0..100 {
-                let wanted = Wanted {
-                    rule,
-                    event: rng.pick(&PLACES),
-                    s: rng.pick(&PLACES),
-                    t: rng.pick(&PLACES),
-                    u: rng.pick(&PLACES),
-                };
+                let wanted = Wanted::anywhere(&mut rng, rule);
                 if let Some(part) = breaking(&mut rng, wanted, 6, 4) {
                     if let Some(found) = check::first_break(&part) {
                         if found.rule == rule {

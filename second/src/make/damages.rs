@@ -1,12 +1,16 @@
-//! Makes records that are meant to be refused: damaged for 1 to 8, mangled, random bytes.
+//! Makes records that are meant to be refused: damaged for 1 to 8 and 16, mangled, random bytes.
 
 use super::breaks::changed_steps;
+use super::levels::bad_level;
 use super::passing::any_passing;
-use crate::record::{self, class_at, entry_at, row_at, u32_at, EVENT_COUNT_AT, HEADER, START_AT, STATE_COUNT_AT};
+use crate::record::{
+    self, class_at, entry_at, level_at, row_at, u32_at, EVENT_COUNT_AT, HEADER, OBSERVER_AT, ORDER, START_AT,
+    STATE_COUNT_AT,
+};
 use crate::rng::Rng;
 
-/// Damages a well-formed record towards one of the refusals 1 to 8. Where the record has no place for it (no events
-/// for 7, say), it stays as it is.
+/// Damages a well-formed record towards one of the refusals 1 to 8 and 16. Where the record has no place for it (no
+/// events for 7, say), it stays as it is.
 pub fn damage(rng: &mut Rng, bytes: &mut Vec<u8>, refusal: u32) {
     if bytes.len() <= HEADER + 4 {
         // An earlier damage has already cut it.
@@ -106,6 +110,11 @@ pub fn damage(rng: &mut Rng, bytes: &mut Vec<u8>, refusal: u32) {
                 bytes[entry_at(n, e) + 2] = rng.pick(&[3, 4, 128, 255]);
             }
         }
+        16 => {
+            let whose = rng.pick(&[0, 1, m / 2 + 1, m]).min(m);
+            let level = bad_level(rng, bytes[OBSERVER_AT]);
+            label(bytes, whose, level);
+        }
         _ => {
             if m >= 1 && n < 64 {
                 let e = rng.pick(&[0, m / 2, m - 1]);
@@ -115,6 +124,12 @@ pub fn damage(rng: &mut Rng, bytes: &mut Vec<u8>, refusal: u32) {
             }
         }
     }
+}
+
+/// Gives a level to the observer, which is number 0, or to an event, from number 1 on.
+pub fn label(bytes: &mut [u8], whose: usize, level: u8) {
+    let at = if whose == 0 { OBSERVER_AT } else { level_at(bytes[STATE_COUNT_AT] as usize, whose - 1) };
+    bytes[at] = level;
 }
 
 fn set_length(bytes: &mut [u8], length: u32) {
@@ -166,7 +181,7 @@ pub fn bad_record(rng: &mut Rng) -> Vec<u8> {
     let mut bytes = record::write(&part);
     match rng.below(4) {
         0 => {
-            let refusal = rng.range(1, 8) as u32;
+            let refusal = rng.pick(&ORDER);
             damage(rng, &mut bytes, refusal);
             bytes
         }
@@ -185,7 +200,7 @@ mod tests {
     #[test]
     fn damages_are_refused_as_meant() {
         let mut rng = Rng::new(53);
-        for refusal in 1..=8 {
+        for refusal in ORDER {
             let mut as_meant = 0;
             for _ in 0..100 {
                 let n = rng.range(2, 6);

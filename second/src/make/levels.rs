@@ -1,15 +1,49 @@
 //! Makes levels, identifiers and events.
 
-use crate::record::{at_or_below, incomparable, Event, Kind};
+use crate::record::{at_or_below, incomparable, is_mislabelled, Event, Kind};
 use crate::rng::Rng;
+
+/// The level without its compartments where it may have none.
+fn labelled(level: u8) -> u8 {
+    if is_mislabelled(level) {
+        0
+    } else {
+        level
+    }
+}
+
+/// Any level that refusal 16 leaves alone.
+pub fn any_level(rng: &mut Rng) -> u8 {
+    labelled(rng.byte())
+}
+
+/// Another such level, one rank or compartment away.
+pub fn near_level(rng: &mut Rng, level: u8) -> u8 {
+    loop {
+        let near = level ^ (1 << rng.below(8));
+        if !is_mislabelled(near) {
+            return near;
+        }
+    }
+}
+
+/// A level for refusal 16: often the first compartment alone, the last or all, and often a low one where there is one.
+pub fn bad_level(rng: &mut Rng, observer: u8) -> u8 {
+    let level = if rng.chance(1, 2) { rng.pick(&[0x01, 0x20, 0x3F]) } else { rng.range(0x01, 0x3F) as u8 };
+    if level & observer != 0 && rng.chance(1, 2) {
+        level & observer
+    } else {
+        level
+    }
+}
 
 /// An observer level for which high levels exist, that is any but 0xFF.
 pub fn observer(rng: &mut Rng) -> u8 {
     match rng.below(4) {
         0 => 0,
         1 => 0x80,
-        2 => rng.pick(&[0x40, 0x41, 0x81, 0xC0, 0x3F, 0xFE, 0xBF]),
-        _ => rng.below(255) as u8,
+        2 => rng.pick(&[0x40, 0x41, 0x81, 0xC0, 0x7F, 0xFE, 0xBF]),
+        _ => labelled(rng.below(255) as u8),
     }
 }
 
@@ -18,7 +52,7 @@ pub fn low_level(rng: &mut Rng, observer: u8) -> u8 {
     loop {
         let level = match rng.below(3) {
             0 => observer,
-            1 => rng.byte() & observer,
+            1 => labelled(rng.byte() & observer),
             _ => 0,
         };
         if at_or_below(level, observer) {
@@ -32,7 +66,7 @@ pub fn high_level(rng: &mut Rng, observer: u8) -> u8 {
     assert!(observer != 0xFF);
     let wants_incomparable = rng.chance(1, 2);
     for _ in 0..50 {
-        let level = rng.byte();
+        let level = any_level(rng);
         if wants_incomparable && incomparable(level, observer) {
             return level;
         }
@@ -41,7 +75,7 @@ pub fn high_level(rng: &mut Rng, observer: u8) -> u8 {
         }
     }
     loop {
-        let level = rng.byte();
+        let level = any_level(rng);
         if !at_or_below(level, observer) {
             return level;
         }
@@ -102,4 +136,45 @@ pub fn random_events(rng: &mut Rng, observer: u8, count: usize) -> Vec<Event> {
         events.push(event(rng, observer, identifier, role));
     }
     events
+}
+
+#[cfg(test)]
+mod tests {
+    use super::*;
+
+    /// Every level but the bad ones is drawn, rank 0 as often as the others.
+    #[test]
+    fn levels_are_labelled() {
+        let mut rng = Rng::new(63);
+        let mut drawn = [0; 256];
+        for _ in 0..20_000 {
+            drawn[any_level(&mut rng) as usize] += 1;
+        }
+        for level in 0..=255 {
+            assert_eq!(drawn[level as usize] == 0, is_mislabelled(level), "{}", level);
+        }
+        assert!(drawn[0] > 4000, "{}", drawn[0]);
+    }
+
+    #[test]
+    fn drawn_levels_are_on_their_side() {
+        let mut rng = Rng::new(64);
+        let mut incomparable_ones = 0;
+        for _ in 0..5000 {
+            let observer = observer(&mut rng);
+            let low = low_level(&mut rng, observer);
+            let high = high_level(&mut rng, observer);
+            let near = near_level(&mut rng, observer);
+            for level in [observer, low, high, near] {
+                assert!(!is_mislabelled(level));
+            }
+            assert!(at_or_below(low, observer) && !at_or_below(high, observer));
+            assert!(near != observer);
+            assert!(is_mislabelled(bad_level(&mut rng, observer)));
+            if incomparable(high, observer) {
+                incomparable_ones += 1;
+            }
+        }
+        assert!(incomparable_ones > 1500, "{}", incomparable_ones);
+    }
 }

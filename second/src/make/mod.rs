@@ -11,9 +11,11 @@ mod scripts;
 mod shapes;
 
 pub use breaks::{breaking, changed_steps, damaged_out_of_reach, small_random_table, Place, Wanted, PLACES};
-pub use damages::{bad_record, damage, mangled, random_bytes};
+pub use damages::{bad_record, damage, label, mangled, random_bytes};
 pub use groupings::{any_grouping, by_first_appearance, grouping};
-pub use levels::{event, high_level, identifiers, low_level, observer, random_events, Role, ROLES};
+pub use levels::{
+    any_level, bad_level, event, high_level, identifiers, low_level, near_level, observer, random_events, Role, ROLES,
+};
 pub use lines::{cut_line, line};
 pub use pairs::{bus, joinable_pair, pair, regrouped, rename, small_joinable_pair, third_for, Clash, PairPlan};
 pub use passing::{

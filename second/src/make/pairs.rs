@@ -1,7 +1,7 @@
 //! Makes parts to join: pairs by a plan, a third part, parts of one bus.
 
 use super::groupings::{any_grouping, grouping};
-use super::levels::{event, identifiers, observer, ROLES};
+use super::levels::{any_level, event, identifiers, near_level, observer, ROLES};
 use super::passing::{passing_with, vary, LITTLE_QUIET, SOME_QUIET};
 use crate::record::{Event, Kind, Part};
 use crate::rng::Rng;
@@ -80,7 +80,7 @@ pub fn pair(rng: &mut Rng, plan: PairPlan) -> (Part, Part) {
                     b.kind = kind_b;
                 }
                 while plan.clash == Clash::Level && a.level == b.level {
-                    b.level = if rng.chance(1, 2) { rng.byte() } else { a.level ^ (1 << rng.below(8)) };
+                    b.level = if rng.chance(1, 2) { any_level(rng) } else { near_level(rng, a.level) };
                 }
             }
             shared_met += 1;
@@ -201,7 +201,7 @@ pub fn bus(rng: &mut Rng, parts: usize, most_states: usize) -> Vec<Part> {
                 drawn.kind = rng.pick(&[Kind::Output, Kind::Internal]);
             }
             if rng.chance(1, 12) {
-                drawn.level ^= 1 << rng.below(8);
+                drawn.level = near_level(rng, drawn.level);
             }
             lists[receiver].push(drawn);
         } else {

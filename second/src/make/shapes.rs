@@ -1,7 +1,7 @@
 //! Makes parts by the shape of their quiet steps.
 
 use super::groupings::any_grouping;
-use super::levels::{event, identifiers, observer, Role, ROLES};
+use super::levels::{any_level, event, identifiers, near_level, observer, Role, ROLES};
 use crate::check;
 use crate::record::Part;
 use crate::rng::Rng;
@@ -196,12 +196,12 @@ pub fn shaped_without_inputs(rng: &mut Rng, shape: Shape, n: usize, m: usize) ->
 /// quiet changes with them.
 pub fn with_near_levels(rng: &mut Rng, part: &Part) -> Part {
     let mut changed = part.clone();
-    changed.observer = rng.byte();
+    changed.observer = any_level(rng);
     for e in 0..part.event_count() {
         changed.events[e].level = match rng.below(4) {
             0 => changed.observer,
-            1 => rng.byte(),
-            _ => changed.observer ^ (1 << rng.below(8)),
+            1 => any_level(rng),
+            _ => near_level(rng, changed.observer),
         };
     }
     changed

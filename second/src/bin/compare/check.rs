@@ -1,9 +1,10 @@
 //! Compares hookup_check: the number, and that nothing is written.
 
+use crate::label;
 use crate::product::{self, Lent};
 use crate::report::differ;
 use crate::{all_examples, Comparison, LEAST, LEAST_OF_MAIN, MOST_TRIES};
-use second::cases;
+use second::cases::{self, Reasons};
 use second::category::{self, Tally};
 use second::check::{self, Verdict};
 use second::make;
@@ -19,11 +20,10 @@ pub fn need(tally: &mut Tally) {
     for name in category::WRONG_READINGS {
         tally.need(&format!("check: {}", name), LEAST);
     }
-    for later in 2..=9 {
-        for earlier in 1..later {
-            tally.need(&format!("check: damaged for {} and {}, refused {}", earlier, or_break(later), earlier), LEAST);
-        }
+    for reasons in cases::each_two_reasons() {
+        tally.need(&twice_damaged_name(reasons), LEAST);
     }
+    label::need(tally, "check:", LEAST);
     tally.need("check: mangled record", LEAST_OF_MAIN);
     tally.need("check: random bytes", LEAST_OF_MAIN);
     tally.need("check: more than 65536 bytes", LEAST);
@@ -32,12 +32,12 @@ pub fn need(tally: &mut Tally) {
     tally.need("check: record with each bit changed", LEAST_OF_MAIN);
 }
 
-fn or_break(number: u32) -> String {
-    if number == 9 {
-        "a break".to_string()
-    } else {
-        number.to_string()
-    }
+fn twice_damaged_name((earlier, later): Reasons) -> String {
+    let later = match later {
+        Some(number) => number.to_string(),
+        None => "a break".to_string(),
+    };
+    format!("check: damaged for {} and {}, refused {}", earlier, later, earlier)
 }
 
 impl Comparison {
@@ -45,6 +45,7 @@ impl Comparison {
     fn check_number(&mut self, bytes: &[u8]) {
         let expected = check::number(check::check(bytes));
         let lent = Lent::new(&mut self.rng, bytes);
+        self.count_call("hookup_check");
         let got = product::check(&lent);
         if got != expected {
             differ("hookup_check", &[("record", bytes)], &expected.to_string(), &got.to_string());
@@ -62,6 +63,7 @@ impl Comparison {
         for name in category::of_record(bytes) {
             self.tally.count_if_known(&format!("check: {}", name));
         }
+        self.count_labels("check:", bytes);
     }
 
     pub fn all_checks(&mut self) {
@@ -70,6 +72,9 @@ impl Comparison {
             self.cut_and_changed(&bytes);
         }
         for bytes in cases::refused(&mut self.rng, LEAST) {
+            self.check_record(&bytes);
+        }
+        for bytes in cases::mislabelled(&mut self.rng, LEAST) {
             self.check_record(&bytes);
         }
         for bytes in cases::breaking(&mut self.rng, LEAST) {
@@ -88,11 +93,10 @@ impl Comparison {
             }
         }
         for _ in 0..MOST_TRIES {
-            let (bytes, earlier, later) = cases::twice_damaged(&mut self.rng);
+            let (bytes, reasons) = cases::twice_damaged(&mut self.rng);
             self.check_record(&bytes);
-            if check::check(&bytes) == Verdict::Refused(earlier) {
-                let name = format!("check: damaged for {} and {}, refused {}", earlier, or_break(later), earlier);
-                self.tally.count(&name);
+            if check::check(&bytes) == Verdict::Refused(reasons.0) {
+                self.tally.count(&twice_damaged_name(reasons));
             }
         }
         for _ in 0..2000 {

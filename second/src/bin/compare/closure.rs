@@ -1,6 +1,7 @@
 //! Compares hookup_closure: the number, every byte of the output buffer, and that nothing else is written. Where all
 //! small tables are tried, hookup_explain is compared on them too.
 
+use crate::label;
 use crate::product::{self, Lent};
 use crate::report::differ;
 use crate::{all_examples, Comparison, LEAST, LEAST_OF_MAIN, MOST_TRIES};
@@ -22,9 +23,10 @@ pub fn need(tally: &mut Tally) {
         let least = if category_closure::is_main(&name) { LEAST_OF_MAIN } else { LEAST };
         tally.need(&format!("closure: {}", name), least);
     }
-    for earlier in 1..8 {
+    for &earlier in cases::earlier_refusals() {
         tally.need(&twice_damaged_name(earlier), LEAST);
     }
+    label::need(tally, "closure:", LEAST);
     tally.need(UP_TO_3_STATES, 2 + 16 + 512);
     tally.need(OF_4_STATES, 4096);
     tally.need("closure: record cut at each length", LEAST);
@@ -48,6 +50,7 @@ impl Comparison {
 
         let lent = Lent::new(&mut self.rng, bytes);
         let mut out = Lent::new(&mut self.rng, &before);
+        self.count_call("hookup_closure");
         let got = product::closure(&lent, &mut out);
 
         let room_bytes = (room as u32).to_le_bytes();
@@ -68,6 +71,7 @@ impl Comparison {
         for name in category_closure::of_closure(bytes, room, answer) {
             self.tally.count(&format!("closure: {}", name));
         }
+        self.count_labels("closure:", bytes);
         if lent.is_null() {
             self.tally.count("closure: record at a null pointer");
         }
@@ -178,13 +182,16 @@ impl Comparison {
             }
             self.close_record(&bytes);
         }
+        for bytes in cases::mislabelled(&mut self.rng, LEAST) {
+            self.close_record(&bytes);
+        }
         for _ in 0..MOST_TRIES {
-            if !(1..8).any(|earlier| self.tally.lacks(&twice_damaged_name(earlier))) {
+            if !cases::earlier_refusals().iter().any(|&earlier| self.tally.lacks(&twice_damaged_name(earlier))) {
                 break;
             }
-            let (bytes, earlier, later) = cases::twice_damaged(&mut self.rng);
+            let (bytes, (earlier, later)) = cases::twice_damaged(&mut self.rng);
             self.close_record(&bytes);
-            if later < 9 && record::first_refusal(&bytes) == Some(earlier) {
+            if later.is_some() && record::first_refusal(&bytes) == Some(earlier) {
                 self.tally.count(&twice_damaged_name(earlier));
             }
         }

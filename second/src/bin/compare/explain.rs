@@ -1,6 +1,7 @@
 //! Compares hookup_explain: the number, every byte of the output buffer, and that nothing else is written. Its number is
 //! also held against hookup_check's.
 
+use crate::label;
 use crate::product::{self, Lent};
 use crate::report::differ;
 use crate::{all_examples, Comparison, LEAST, LEAST_OF_MAIN, MOST_TRIES};
@@ -10,7 +11,7 @@ use second::category_explain;
 use second::check;
 use second::examples;
 use second::explain::{self, EXPLANATION};
-use second::make::{self, Role, Shape, Wanted, PLACES, SHAPES};
+use second::make::{self, Role, Shape, Wanted, SHAPES};
 use second::record::{self, Part};
 use second::replay::hex;
 
@@ -26,9 +27,10 @@ pub fn need(tally: &mut Tally) {
         let least = if category_explain::is_main(&name) { LEAST_OF_MAIN } else { LEAST };
         tally.need(&format!("explain: {}", name), least);
     }
-    for earlier in 1..8 {
+    for &earlier in cases::earlier_refusals() {
         tally.need(&twice_damaged_name(earlier), LEAST);
     }
+    label::need(tally, "explain:", LEAST);
     tally.need(WITH_EACH_GROUPING, 2 + 2 * 16 + 5 * 512);
     tally.need(PAIRS_OF_TABLES, 4 * 16 * 16 * 2);
     tally.need("explain: record cut at each length", LEAST);
@@ -52,6 +54,7 @@ impl Comparison {
 
         let lent = Lent::new(&mut self.rng, bytes);
         let mut out = Lent::new(&mut self.rng, &before);
+        self.count_call("hookup_explain");
         let got = product::explain(&lent, &mut out);
 
         let room_bytes = (room as u32).to_le_bytes();
@@ -77,6 +80,7 @@ impl Comparison {
         for name in category_explain::of_explain(bytes, room, answer) {
             self.tally.count(&format!("explain: {}", name));
         }
+        self.count_labels("explain:", bytes);
         if lent.is_null() {
             self.tally.count("explain: record at a null pointer");
         }
@@ -268,13 +272,7 @@ impl Comparison {
 
     /// A part that is meant to break this rule first, at any places.
     fn breaking(&mut self, rule: u32, n: usize, m: usize) -> Option<Part> {
-        let wanted = Wanted {
-            rule,
-            event: self.rng.pick(&PLACES),
-            s: self.rng.pick(&PLACES),
-            t: self.rng.pick(&PLACES),
-            u: self.rng.pick(&PLACES),
-        };
+        let wanted = Wanted::anywhere(&mut self.rng, rule);
         make::breaking(&mut self.rng, wanted, n, m)
     }
 
@@ -285,13 +283,16 @@ impl Comparison {
                 self.explain(&bytes, room);
             }
         }
+        for bytes in cases::mislabelled(&mut self.rng, LEAST) {
+            self.explain_record(&bytes);
+        }
         for _ in 0..MOST_TRIES {
-            if !(1..8).any(|earlier| self.tally.lacks(&twice_damaged_name(earlier))) {
+            if !cases::earlier_refusals().iter().any(|&earlier| self.tally.lacks(&twice_damaged_name(earlier))) {
                 break;
             }
-            let (bytes, earlier, later) = cases::twice_damaged(&mut self.rng);
+            let (bytes, (earlier, later)) = cases::twice_damaged(&mut self.rng);
             self.explain_record(&bytes);
-            if later < 9 && record::first_refusal(&bytes) == Some(earlier) {
+            if later.is_some() && record::first_refusal(&bytes) == Some(earlier) {
                 self.tally.count(&twice_damaged_name(earlier));
             }
         }

@@ -1,5 +1,6 @@
 //! Compares hookup_join: the number, every byte of the output buffer, and that nothing else is written.
 
+use crate::label;
 use crate::product::{self, Lent};
 use crate::report::differ;
 use crate::{all_examples, Comparison, LEAST, LEAST_OF_MAIN};
@@ -7,7 +8,7 @@ use second::cases;
 use second::category::Tally;
 use second::category_join;
 use second::examples;
-use second::join::{self, JoinAnswer};
+use second::join::{self, JoinAnswer, Side};
 use second::make::{self, Clash, PairPlan};
 use second::record::{self, Part};
 use second::replay::hex;
@@ -21,6 +22,8 @@ pub fn need(tally: &mut Tally) {
         tally.need(&format!("join: {}", name), least);
     }
     tally.need("join: joined, A and B at one address", LEAST);
+    label::need(tally, "join: A", LEAST);
+    label::need(tally, "join: B", LEAST);
 }
 
 impl Comparison {
@@ -37,6 +40,7 @@ impl Comparison {
         let one_address = a == b && self.rng.chance(1, 2);
         let given_b = if one_address { &lent_a } else { &lent_b };
         let mut out = Lent::new(&mut self.rng, &before);
+        self.count_call("hookup_join");
         let got = product::join(&lent_a, given_b, &mut out);
 
         let room_bytes = (room as u32).to_le_bytes();
@@ -56,6 +60,10 @@ impl Comparison {
 
         for name in category_join::of_join(a, b, room, answer) {
             self.tally.count(&format!("join: {}", name));
+        }
+        self.count_labels("join: A", a);
+        if !matches!(answer, JoinAnswer::Stopped(Side::A, _)) {
+            self.count_labels("join: B", b);
         }
         if one_address && expected == 0 {
             self.tally.count("join: joined, A and B at one address");
@@ -152,7 +160,8 @@ impl Comparison {
             let k = self.rng.range(1, n);
             let classes = make::grouping(&mut self.rng, n, k);
             let start = self.rng.below(n);
-            let bytes = record::write(&Part::without_steps(self.rng.byte(), start, classes, Vec::new()));
+            let observer = make::any_level(&mut self.rng);
+            let bytes = record::write(&Part::without_steps(observer, start, classes, Vec::new()));
             self.join_pair(&bytes, &bytes, 4 + n * n + 6);
         }
 
@@ -217,6 +226,13 @@ impl Comparison {
             self.join_pair(&good, bytes, room);
             let other = bad[self.rng.below(bad.len())].clone();
             self.join_pair(bytes, &other, room);
+        }
+        // A or B with bad levels, the other passing.
+        for bytes in cases::mislabelled(&mut self.rng, LEAST) {
+            let good = record::write(&make::any_passing(&mut self.rng));
+            let room = self.rng.pick(&[0, 100, LONGEST]);
+            self.join_pair(&bytes, &good, room);
+            self.join_pair(&good, &bytes, room);
         }
         for _ in 0..1000 {
             let a = make::bad_record(&mut self.rng);

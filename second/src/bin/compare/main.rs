@@ -9,6 +9,7 @@ mod check;
 mod closure;
 mod explain;
 mod join;
+mod label;
 mod product;
 mod replay;
 mod replay_limits;
@@ -19,6 +20,7 @@ use second::category::Tally;
 use second::examples;
 use second::record;
 use second::rng::Rng;
+use std::collections::BTreeMap;
 use std::process::exit;
 use std::time::Instant;
 
@@ -32,11 +34,22 @@ const MOST_TRIES: usize = 30_000;
 struct Comparison {
     rng: Rng,
     tally: Tally,
-    verdict: Option<String>,
-    replay: Option<String>,
+    calls: BTreeMap<&'static str, usize>,
 }
 
 impl Comparison {
+    /// Makes all calls of one comparison and tells how many were compared.
+    fn compare(&mut self, name: &str, seed: u64, number: u64, all_calls: impl Fn(&mut Comparison)) {
+        let started = Instant::now();
+        self.rng = rng_for(seed, number);
+        all_calls(self);
+        println!("{} compared, {} calls, {} s", name, self.calls[name], started.elapsed().as_secs());
+    }
+
+    fn count_call(&mut self, name: &'static str) {
+        *self.calls.entry(name).or_default() += 1;
+    }
+
     /// What an output buffer of that length holds before a call.
     fn pattern(&mut self, room: usize) -> Vec<u8> {
         let seed = self.rng.byte() as usize;
@@ -96,48 +109,26 @@ fn rng_for(seed: u64, comparison: u64) -> Rng {
 fn main() {
     let arguments = arguments();
     println!("compare: seed {}", arguments.seed);
-    let mut run = Comparison {
-        rng: rng_for(arguments.seed, 1),
-        tally: Tally::new(),
-        verdict: arguments.verdict,
-        replay: arguments.replay,
-    };
+    let mut run = Comparison { rng: Rng::new(0), tally: Tally::new(), calls: BTreeMap::new() };
     check::need(&mut run.tally);
     join::need(&mut run.tally);
     closure::need(&mut run.tally);
     explain::need(&mut run.tally);
-    let started = Instant::now();
-    run.all_checks();
-    println!("hookup_check compared, {} s", started.elapsed().as_secs());
-    run.rng = rng_for(arguments.seed, 2);
-    let started = Instant::now();
-    run.all_joins();
-    println!("hookup_join compared, {} s", started.elapsed().as_secs());
-    run.rng = rng_for(arguments.seed, 5);
-    let started = Instant::now();
-    run.all_closures();
-    println!("hookup_closure compared, {} s", started.elapsed().as_secs());
-    run.rng = rng_for(arguments.seed, 6);
-    let started = Instant::now();
-    run.all_explanations();
-    println!("hookup_explain compared, {} s", started.elapsed().as_secs());
-    match run.verdict.clone() {
+    run.compare("hookup_check", arguments.seed, 1, |run| run.all_checks());
+    run.compare("hookup_join", arguments.seed, 2, |run| run.all_joins());
+    run.compare("hookup_closure", arguments.seed, 5, |run| run.all_closures());
+    run.compare("hookup_explain", arguments.seed, 6, |run| run.all_explanations());
+    match arguments.verdict {
         Some(path) => {
             verdict::need(&mut run.tally);
-            run.rng = rng_for(arguments.seed, 3);
-            let started = Instant::now();
-            run.all_verdicts(&path);
-            println!("verdict compared, {} s", started.elapsed().as_secs());
+            run.compare("verdict", arguments.seed, 3, |run| run.all_verdicts(&path));
         }
         None => println!("verdict not compared: no --verdict"),
     }
-    match run.replay.clone() {
+    match arguments.replay {
         Some(path) => {
             replay::need(&mut run.tally);
-            run.rng = rng_for(arguments.seed, 4);
-            let started = Instant::now();
-            run.all_replays(&path);
-            println!("replay compared, {} s", started.elapsed().as_secs());
+            run.compare("replay", arguments.seed, 4, |run| run.all_replays(&path));
         }
         None => println!("replay not compared: no --replay"),
     }

@@ -1,8 +1,10 @@
 //! Compares the program `replay`: its whole output, a process for each script. Loads and sessions.
 
+use crate::label;
 use crate::product::run_program;
 use crate::report::{differ, shown};
 use crate::{all_examples, Comparison, LEAST, LEAST_OF_MAIN};
+use second::answer::Answer;
 use second::cases;
 use second::category::Tally;
 use second::category_replay;
@@ -12,16 +14,21 @@ use second::make::{self, Script};
 use second::record;
 use second::replay::{self, hex, Effect, Operation};
 
+/// Begins the name of each category of levels.
+const LOAD: &str = "replay: load,";
+
 pub fn need(tally: &mut Tally) {
     for name in category_replay::names() {
         let least = if category_replay::is_main(&name) { LEAST_OF_MAIN } else { LEAST };
         tally.need(&format!("replay: {}", name), least);
     }
+    label::need(tally, LOAD, LEAST);
 }
 
 impl Comparison {
     pub fn replay_script(&mut self, path: &str, script: &[u8]) {
         let expected = replay::replay(script);
+        self.count_call("replay");
         match run_program(path, script) {
             Err(error) => differ("replay", &[("script", script)], &shown(&expected.output), &error),
             Ok(output) => {
@@ -40,6 +47,13 @@ impl Comparison {
         self.agree_with_bench(script, &expected);
         for name in category_replay::of_replay(script, &expected) {
             self.tally.count_if_known(&format!("replay: {}", name));
+        }
+        for done in &expected.done {
+            if let Operation::Load(record) = &done.operation {
+                if done.effect != Effect::Answer(Answer::Refused(12)) {
+                    self.count_labels(LOAD, record);
+                }
+            }
         }
     }
 
@@ -88,16 +102,30 @@ impl Comparison {
         }
     }
 
+    /// Loads of these records on a shelf that was never cleared.
+    fn replay_uncleared(&mut self, path: &str, records: &[Vec<u8>]) {
+        for some in records.chunks(50) {
+            let mut script = Script::new(self.rng.below(100));
+            for bytes in some.iter().filter(|bytes| bytes.len() < 1000) {
+                script.load(bytes);
+            }
+            self.replay_script(path, &script.bytes);
+        }
+    }
+
     pub fn all_replays(&mut self, path: &str) {
         let refused = cases::refused(&mut self.rng, LEAST);
+        let mislabelled = cases::mislabelled(&mut self.rng, LEAST + LEAST / 4);
         let breaking = cases::breaking(&mut self.rng, LEAST);
         let passing = cases::passing(&mut self.rng, LEAST);
         let quiet = cases::quiet(&mut self.rng, LEAST_OF_MAIN);
         for capacity in [20_000, 6] {
             self.replay_loads(path, &all_examples(), capacity);
             self.replay_loads(path, &refused, capacity);
+            self.replay_loads(path, &mislabelled, capacity);
             self.replay_loads(path, &breaking, capacity);
         }
+        self.replay_uncleared(path, &mislabelled);
         self.replay_loads(path, &passing, 80_000);
         self.replay_loads(path, &quiet, 30_000);
         // Loads are refused with 12 before the first clear; a few categories lost cases to that.

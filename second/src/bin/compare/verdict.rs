@@ -1,5 +1,6 @@
 //! Compares the program `verdict`: its whole output, a process for each record.
 
+use crate::label;
 use crate::product::run_program;
 use crate::report::differ;
 use crate::{all_examples, Comparison, LEAST, MOST_TRIES};
@@ -9,12 +10,16 @@ use second::check;
 use second::make;
 use second::record;
 
+/// The least number of cases of a category of levels; each case is a process.
+const LEAST_OF_LABELS: usize = LEAST / 4;
+
 pub fn need(tally: &mut Tally) {
     for name in category::refused_names().iter().chain(&category::break_names()).chain(&category::pass_names()) {
         tally.need(&format!("verdict: {}", name), LEAST);
     }
     tally.need(&format!("verdict: {}", category::QUIET_IGNORED), LEAST);
     tally.need(&format!("verdict: {}", category::QUIET_REMOVED), LEAST);
+    label::need(tally, "verdict:", LEAST_OF_LABELS);
     tally.need("verdict: empty input", LEAST);
     tally.need("verdict: 65536 bytes", LEAST);
     tally.need("verdict: longer, 65536 bytes judged", LEAST);
@@ -24,6 +29,7 @@ pub fn need(tally: &mut Tally) {
 impl Comparison {
     fn verdict_of(&mut self, path: &str, input: &[u8]) {
         let expected = format!("{}\n", check::verdict_line(input));
+        self.count_call("verdict");
         match run_program(path, input) {
             Err(error) => differ("verdict", &[("input", input)], expected.trim_end(), &error),
             Ok(output) => {
@@ -48,12 +54,14 @@ impl Comparison {
             for name in category::of_record(input) {
                 self.tally.count_if_known(&format!("verdict: {}", name));
             }
+            self.count_labels("verdict:", input);
         }
     }
 
     pub fn all_verdicts(&mut self, path: &str) {
         let mut inputs = all_examples();
         inputs.extend(cases::refused(&mut self.rng, LEAST));
+        inputs.extend(cases::mislabelled(&mut self.rng, LEAST_OF_LABELS));
         inputs.extend(cases::breaking(&mut self.rng, LEAST));
         inputs.extend(cases::passing(&mut self.rng, LEAST));
         inputs.extend(cases::quiet(&mut self.rng, LEAST));

@@ -12,13 +12,13 @@ returns : tie.Need-returns
 unfolding misordered
 returns c = sym (or-now _ _ (sym (c .before .falling .ensures) ∙ c .if1 .taken))
 
-unknown-kind-requires : tie.Need-unknown-kind-requires
-unknown-kind-requires c κs = search needs
+some-fault-requires : tie.Need-some-fault-requires
+some-fault-requires c κs = search needs
 
 returns-2 : tie.Need-returns-2
-unfolding misordered
-returns-2 c = c .unknown-kind .ensures
+unfolding misordered unknown-kind
+returns-2 c = c .some-fault .ensures
     ∙ sym (or-then _ _ (sym (c .before .before .falling .ensures) ∙ c .before .if1 .left))
 
 pub misordered-spec : {M : Type 1} → statement M
-misordered-spec = tie.close (tie.spec falling-requires returns unknown-kind-requires returns-2)
+misordered-spec = tie.close (tie.spec falling-requires returns some-fault-requires returns-2)

@@ -25,6 +25,10 @@ past-2 c = past-1 (c .before .before) ∙ skip _ _ _ cc
 past-3 : (c : tie.Else3) → Passed 3 (now (c .before .before .before .before .before .before .before .before .args .b))
 past-3 c = past-2 (c .before .before) ∙ skip _ _ _ cc
 
+past-4 : (c : tie.Else4) → Passed 4
+    (now (c .before .before .before .before .before .before .before .before .before .before .args .b))
+past-4 c = past-3 (c .before .before) ∙ skip _ _ _ cc
+
 column-requires : tie.Need-column-requires
 column-requires c κs = search needs
 
@@ -42,17 +46,24 @@ returns-2 : tie.Need-returns-2
 unfolding rejection-of
 returns-2 c = sym (past-1 (c .before .before) ∙ hit _ _ _ cc)
 
-stray-bit-requires : tie.Need-stray-bit-requires
-stray-bit-requires c κs = search needs
+mislabelled-requires : tie.Need-mislabelled-requires
+mislabelled-requires c κs = search needs
 
 returns-3 : tie.Need-returns-3
 unfolding rejection-of
 returns-3 c = sym (past-2 (c .before .before) ∙ hit _ _ _ cc)
 
+stray-bit-requires : tie.Need-stray-bit-requires
+stray-bit-requires c κs = search needs
+
 returns-4 : tie.Need-returns-4
+unfolding rejection-of
+returns-4 c = sym (past-3 (c .before .before) ∙ hit _ _ _ cc)
+
+returns-5 : tie.Need-returns-5
 unfolding first-of rejection-of
-returns-4 c = sym (past-3 c)
+returns-5 c = sym (past-4 c)
 
 pub screen-content-spec : {M : Type 1} → statement M
 screen-content-spec = tie.close (tie.spec column-requires unnumbered-requires returns misordered-requires returns-2
-    stray-bit-requires returns-3 returns-4)
+    mislabelled-requires returns-3 stray-bit-requires returns-4 returns-5)

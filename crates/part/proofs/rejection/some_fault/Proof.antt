@@ -2,17 +2,17 @@ use Prim.Native.Nat.{_≤_, _-_}
 use mathlib.Core.Path.{_≡_, refl}
 use Rattle.bounded.specs.Search.{any}
 use Rattle.bounded.proofs.Search.{any-more, scan-hit, scan-done}
-use Rattle.part.specs.Rejections.{unknown-at, unknown-kind}
+use Rattle.part.specs.Frame.{has-fault}
 use mathlib.Core.Bool.{false}
 use native.Mathlib.Omega.{arith}
-use Rattle.part.proofs.rejection.unknown_kind.Statement.{statement}
-use Rattle.part.proofs.rejection.unknown_kind.Tie as tie
+use Rattle.part.proofs.rejection.some_fault.Statement.{statement}
+use Rattle.part.proofs.rejection.some_fault.Tie as tie
 
 abbrev Inv-loop : tie.InvT-loop
-Inv-loop b m i₀ i = (i ≤ m) × (any i (unknown-at b) ≡ false)
+Inv-loop b fault m i₀ i = (i ≤ m) × (any i (has-fault fault b) ≡ false)
 
 abbrev μ-loop : tie.MeasureT-loop
-μ-loop b m i₀ i = m - i
+μ-loop b fault m i₀ i = m - i
 
 events-requires : tie.Need-events-requires Inv-loop μ-loop
 events-requires c κs = omega arith
@@ -21,14 +21,14 @@ loop-holds : tie.Need-loop-holds Inv-loop μ-loop
 unfolding any
 loop-holds c = (omega arith, refl)
 
-unknown-at-requires : tie.Need-unknown-at-requires Inv-loop μ-loop
-unknown-at-requires c κs = (c .before .before .before .before .pre, omega arith)
+has-fault-requires : tie.Need-has-fault-requires Inv-loop μ-loop
+has-fault-requires c κs = (c .before .before .before .before .pre, omega arith)
 
 returns : tie.Need-returns Inv-loop μ-loop
-unfolding unknown-kind
 returns c =
-    scan-hit (unknown-at _) _ (c .before .before .before .loop .i) (omega arith)
-    (let test = c .before .unknown-at .ensures in let went = c .if1 .taken in cc)
+    let turn = c .before .before .before in
+    scan-hit (has-fault (turn .before .before .before .args .fault) _) _ (turn .loop .i) (omega arith)
+    (let test = c .before .has-fault .ensures in let went = c .if1 .taken in cc)
 
 add-i : tie.Need-add-i Inv-loop μ-loop
 add-i c = omega arith
@@ -40,13 +40,12 @@ loop-again : tie.Need-loop-again Inv-loop μ-loop
 loop-again c = (
   omega arith,
   any-more _ _ (c .before .before .before .loop .inv .1)
-      (let test = c .before .unknown-at .ensures in let went = c .if1 .left in cc),
+      (let test = c .before .has-fault .ensures in let went = c .if1 .left in cc),
 )
 
 returns-2 : tie.Need-returns-2 Inv-loop μ-loop
-unfolding unknown-kind
 returns-2 c = scan-done _ _ _ (omega arith) (c .before .loop .inv .1)
 
-pub unknown-kind-spec : {M : Type 1} → statement M
-unknown-kind-spec = tie.close (tie.spec Inv-loop μ-loop events-requires loop-holds unknown-at-requires returns add-i
+pub some-fault-spec : {M : Type 1} → statement M
+some-fault-spec = tie.close (tie.spec Inv-loop μ-loop events-requires loop-holds has-fault-requires returns add-i
     loop-less loop-again returns-2)
