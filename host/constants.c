@@ -1,4 +1,4 @@
-/* Holds the sizes of hookup.h, its struct, the answer that hookup-host never gets, and which levels are mislabelled, to the library. A size
+/* Compares the sizes of hookup.h, its struct, the answer that hookup-host never gets, and which levels are refused, with the library. A size
  * is right where the library takes it and nothing beyond it. C11, and C++ too; status 1 and a line for each that is wrong. */
 #include <stdio.h>
 #include <string.h>

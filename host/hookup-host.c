@@ -110,7 +110,7 @@ static bool print_mislabelled(const uint8_t *record)
     return true;
 }
 
-/* Prints an answer that is about this record, and where a level is mislabelled, which one. */
+/* Prints an answer; where it tells of a mislabelled level, also which of this record it is. */
 static int print_refusal(uint32_t answer, const char *which, const uint8_t *record)
 {
     const struct meaning *m = find_meaning(answer);

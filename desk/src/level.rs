@@ -32,13 +32,13 @@ impl Level {
         self.0 & COMPARTMENT_BITS & (1 << compartment) != 0
     }
 
-    fn has_any(self) -> bool {
+    fn has_compartments(self) -> bool {
         self.0 & COMPARTMENT_BITS != 0
     }
 
     /// Rank 0 and a compartment: a record with such a level is refused with 16.
     pub fn is_mislabelled(self) -> bool {
-        self.rank() == 0 && self.has_any()
+        self.rank() == 0 && self.has_compartments()
     }
 
     /// The order of levels: the rank is not larger, and each compartment is also the other's.
@@ -55,7 +55,7 @@ impl Level {
                 text.push_str(&format!(" {compartment}"));
             }
         }
-        if !self.has_any() {
+        if !self.has_compartments() {
             text.push_str(" none");
         }
         text

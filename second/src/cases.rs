@@ -33,7 +33,7 @@ fn tally_of(names: &[String], minimum: usize) -> Tally {
     tally
 }
 
-/// Records for refusals 1 to 8 and 16, each by a small damage to a passing record.
+/// Records for refusals 1 to 7, 16 and 8, each by a small damage to a passing record.
 pub fn refused(rng: &mut Rng, minimum: usize) -> Vec<Vec<u8>> {
     let mut tally = tally_of(&category::refused_names(), minimum);
     let mut kept = Vec::new();

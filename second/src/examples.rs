@@ -1,4 +1,4 @@
-//! The examples of document 01, "Examples", as bytes.
+//! The examples of document 01, "Examples", as bytes, and P with a level that request d refuses.
 
 use crate::record::{self, Event, Kind, Part};
 

@@ -1,4 +1,4 @@
-//! The part record: its bytes, its fields, refusals 1 to 8 and 16.
+//! The part record: its bytes, its fields, refusals 1 to 7, 16 and 8.
 //! Document 01, "Levels", "The part record", "Refusals out of the input"; document 02, request d.
 
 /// The kind of an event.

@@ -1,4 +1,4 @@
--- What the answers of the code mean: document 01's numbers and values for each case.
+-- What the answers of the code mean: the documents' numbers and values for each case.
 use Rattle.restrictive.specs.Answers as record-answers
 use Rattle.composite.specs.declared.answer.Obstacle.{Obstacle}
 use Rattle.composite.specs.declared.answer.Obstacle.the-variants.{ObserversDiffer, Clash, TooLarge}

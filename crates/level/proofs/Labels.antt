@@ -1,4 +1,4 @@
--- Mislabelled levels: the test decides them, and asking whether the set of compartments is empty is the test.
+-- Mislabelled levels: the test decides them, and what the code asks of the rank and the set of compartments is the test.
 use Prim.Native.Nat.{ℕ}
 use mathlib.Core.Path.{_≡_, refl, ap, sym, _∙_}
 use mathlib.Core.Bool.{false, not}
@@ -11,7 +11,7 @@ use Rattle.bounded.proofs.Search.{is-true, any-none, same-truth, true-not-false
 use Rattle.words.specs.Sets.{bit}
 use Rattle.words.proofs.Sets.{bit-zero, no-members}
 use Rattle.level.specs.Level.{rank, compartments, Mislabelled, mislabelled}
-use Rattle.level.proofs.Order.{inside, small}
+use Rattle.level.proofs.Order.{bit-compartments, compartments-lt}
 
 -- The test holds exactly where the level is mislabelled.
 pub mislabelled-iff : (a : ℕ) → T (mislabelled a) ↔ Mislabelled a
@@ -45,10 +45,10 @@ zero-labelled = refl
 module _ (a : ℕ) where
   -- no compartment bit exactly if the set of compartments is empty
   emptied : any 6 (bit a) ≡ false → compartments a ≡ 0
-  emptied e = no-members 6 _ (small a) (λ c h. inside a c h ∙ any-none (bit a) 6 e c h)
+  emptied e = no-members 6 _ (compartments-lt a) (λ c h. bit-compartments a c h ∙ any-none (bit a) 6 e c h)
 
   none-held : compartments a ≡ 0 → any 6 (bit a) ≡ false
-  none-held e = any-fails 6 (bit a) (λ c h. sym (inside a c h) ∙ ap (λ (x : ℕ). bit x c) e ∙ bit-zero c)
+  none-held e = any-fails 6 (bit a) (λ c h. sym (bit-compartments a c h) ∙ ap (λ (x : ℕ). bit x c) e ∙ bit-zero c)
 
   held : any 6 (bit a) ≡ not (eqb (compartments a) 0)
   held =

@@ -45,18 +45,19 @@ at-or-below-iff a b = (to, from)
 -- ---- the comparison that the code makes: the ranks, and whether the common compartments are all of a's
 
 -- a compartment of the byte is one of its set of compartments
-pub inside : (x c : ℕ) → c < 6 → bit (compartments x) c ≡ bit x c
+pub bit-compartments : (x c : ℕ) → c < 6 → bit (compartments x) c ≡ bit x c
 unfolding compartments
-inside x c h = bit-mod 6 x c h
+bit-compartments x c h = bit-mod 6 x c h
 
-pub small : (x : ℕ) → compartments x < 2 ^ 6
+pub compartments-lt : (x : ℕ) → compartments x < 2 ^ 6
 unfolding compartments
-small x = mod-lt x (lit< tt)
+compartments-lt x = mod-lt x (lit< tt)
 
 shared : (a b c : ℕ) → c < 6 → bit (intersection (compartments a) (compartments b)) c ≡ (bit a c && bit b c)
 shared a b c h =
-    bit-intersection (compartments a) (compartments b) c ∙ ap (λ (p : Bool). p && bit (compartments b) c) (inside a c h)
-    ∙ ap (λ (q : Bool). bit a c && q) (inside b c h)
+    bit-intersection (compartments a) (compartments b) c
+    ∙ ap (λ (p : Bool). p && bit (compartments b) c) (bit-compartments a c h)
+    ∙ ap (λ (q : Bool). bit a c && q) (bit-compartments b c h)
 
 both-is-left : (p q : Bool) → (p && q) ≡ p → T p → T q
 both-is-left true q e t = passes e
@@ -77,12 +78,12 @@ module _ (a b : ℕ) where
       passed (at-or-below a b) (at-or-below-iff a b .1 (record {
         ranks = r;
         within = λ c h. both-is-left (bit a c) (bit b c)
-            (sym (shared a b c h) ∙ ap (λ (x : ℕ). bit x c) e ∙ inside a c h);
+            (sym (shared a b c h) ∙ ap (λ (x : ℕ). bit x c) e ∙ bit-compartments a c h);
       }))
 
   pub some-missing : (intersection (compartments a) (compartments b) ≡ compartments a → ⊥) → at-or-below a b ≡ false
   some-missing n =
       is-false (at-or-below a b) (λ t.
-      n (same-members 6 _ _ (intersection-lt 6 _ _ (small a) (small b)) (small a) (λ c h.
+      n (same-members 6 _ _ (intersection-lt 6 _ _ (compartments-lt a) (compartments-lt b)) (compartments-lt a) (λ c h.
       shared a b c h ∙ left-is-both (bit a c) (bit b c) (at-or-below-iff a b .0 (passes t) .within c h)
-      ∙ sym (inside a c h))))
+      ∙ sym (bit-compartments a c h))))

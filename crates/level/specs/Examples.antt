@@ -19,12 +19,12 @@ pub levels : T
     && low-for 0xC3 0x42
     && not (low-for 0x41 0x81)
     && not (low-for 0x81 0x83)
-    && not (low-for 0x80 0x01)
+    && not (low-for 0x80 0x41)
     && not (low-for 0x7F 0x80))
 unfolding low at-or-below rank all bit
 levels = tt
 
--- Mislabelled: rank 0 with the first compartment, with the last, with all. Not: rank 0 without one, rank 1 with and without.
+-- Mislabelled: rank 0 with the first compartment, with the last, with all. Not: rank 0 without one, rank 1 without and with one, rank 3 with all.
 pub labels : T
     (mislabelled 0x01
     && mislabelled 0x20

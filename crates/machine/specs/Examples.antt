@@ -10,10 +10,10 @@ use Rattle.machine.specs.Traces.{push, low-first, gap-first, lows, gaps}
 -- One state. 1 is a high input, 2 a low output, 3 a low internal event, 4 a high output, 5 a low input; level 0 is low.
 abbrev five : ℕ → Event
 five zero = absent
-five (suc zero) = event input 1
+five (suc zero) = event input 0x40
 five (suc (suc zero)) = event output 0
 five (suc (suc (suc zero))) = event internal 0
-five (suc (suc (suc (suc zero)))) = event output 1
+five (suc (suc (suc (suc zero)))) = event output 0x40
 five (suc (suc (suc (suc (suc zero))))) = event input 0
 five (suc (suc (suc (suc (suc (suc e)))))) = absent
 

@@ -1,4 +1,4 @@
--- Words in which functions that read a record say what they need of it. No promise of a call rests on this page.
+-- Words in which functions that read a record say what they need of it and what they answer. No promise of a call rests on this page.
 use Prim.Native.Nat.{ℕ, _≤_, _<_}
 use mathlib.Core.Path.{_≡_}
 use mathlib.Core.Bool.{Bool}

@@ -27,7 +27,7 @@ pub record InRange (b : List ℕ) : Type 0 where
   pub class-next : (s : ℕ) → suc s < states b → (r : ℕ) × (r ≤ s) × (class b (suc s) ≤ suc (class b r))
   pub identifiers-rise : (i j : ℕ) → i < j → j < events b → identifier b i < identifier b j
   pub kinds : (i : ℕ) → i < events b → event-kind b i ≤ max-event-kind
-  -- neither the observer nor an event is mislabelled
+  -- neither the observer's level nor that of an event is mislabelled
   pub observer-labelled : Mislabelled (observer b) → ⊥
   pub events-labelled : (i : ℕ) → i < events b → Mislabelled (level b i) → ⊥
   pub row-members : (i s t : ℕ) → i < events b → s < states b → T (bit (row b i s) t) → t < states b

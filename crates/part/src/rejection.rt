@@ -16,7 +16,7 @@ use level::Level;
 use words::le;
 use words::set;
 
-// What the conditions ask about each event.
+// What 7, 16 and 8 ask of one event.
 enum Fault {
     UnknownKind,
     Mislabelled,
@@ -235,7 +235,7 @@ fn screen_frame(b: &[u8]) -> Screening
     Screening::Accepted
 }
 
-// The others: classes, entries and rows.
+// The rejections behind these: classes, entries, levels and rows.
 fn screen_content(b: &[u8]) -> Screening
     requires { ⌜ Framed (now b) ⌝ }
     ensures { λ r. ⌜ rejection-of r ≡ first-of content-conditions (now (b .entry)) ⌝ }

@@ -1,4 +1,4 @@
--- What the answers of the code mean: document 01's numbers and values for each case.
+-- What the answers of the code mean: the documents' numbers and values for each case.
 use Prim.Native.Nat.{ℕ}
 use mathlib.Core.Path.{_≡_}
 use mathlib.Core.List.{List}

@@ -1,4 +1,4 @@
--- The answers of the calls on a shelf, with document 01's numbers and values.
+-- The answers of the calls on a shelf, with the documents' numbers and values.
 use Prim.Native.Nat.{ℕ}
 use Rattle.restrictive.specs.Verdict.{Violation}
 use Rattle.composite.specs.Joining as joining

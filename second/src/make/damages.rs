@@ -1,4 +1,4 @@
-//! Makes records that are meant to be refused: damaged for 1 to 8 and 16, mangled, random bytes.
+//! Makes records that are meant to be refused: damaged for 1 to 7, 16 and 8, mangled, random bytes.
 
 use super::breaks::changed_steps;
 use super::levels::bad_level;
@@ -9,7 +9,7 @@ use crate::record::{
 };
 use crate::rng::Rng;
 
-/// Damages a well-formed record towards one of the refusals 1 to 8 and 16. Where the record has no place for it (no
+/// Damages a well-formed record towards one of the refusals 1 to 7, 16 and 8. Where the record has no place for it (no
 /// events for 7, say), it stays as it is.
 pub fn damage(rng: &mut Rng, bytes: &mut Vec<u8>, refusal: u32) {
     if bytes.len() <= HEADER + 4 {

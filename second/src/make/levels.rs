@@ -37,7 +37,7 @@ pub fn bad_level(rng: &mut Rng, observer: u8) -> u8 {
     }
 }
 
-/// An observer level for which high levels exist, that is any but 0xFF.
+/// An observer level for which high levels exist, that is any but 0xFF; and 16 leaves it alone.
 pub fn observer(rng: &mut Rng) -> u8 {
     match rng.below(4) {
         0 => 0,
