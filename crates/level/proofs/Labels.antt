@@ -1,4 +1,4 @@
--- Mislabelled levels: the test decides them, and what the code asks of the rank and the set of compartments is the test.
+-- Mislabelled levels: the test decides them, and what the code asks of rank and compartments is the test.
 use Prim.Native.Nat.{ℕ}
 use mathlib.Core.Path.{_≡_, refl, ap, sym, _∙_}
 use mathlib.Core.Bool.{false, not}

@@ -1,9 +1,8 @@
 -- Fields that make an accepted record.
-use Prim.Native.Nat.{ℕ, zero, suc, _+_, _-_, _^_, _≤_, _<_}
-use mathlib.Core.Path.{_≡_, ap, _∙_}
+use Prim.Native.Nat.{ℕ, zero, suc, _-_, _^_, _≤_, _<_}
+use mathlib.Core.Path.{_≡_, refl, ap, _∙_}
 use mathlib.Core.Bool.{false, not}
 use native.Mathlib.Nat.{lt-of-lt-of-le}
-use native.Mathlib.Numerals.{add-one}
 use native.Mathlib.Decide.{decLe}
 use native.Mathlib.Omega.{arith}
 use lib.ListN.{length}
@@ -16,7 +15,7 @@ use Rattle.part.specs.Format.{max-states, max-events, max-event-kind, he
 use Rattle.part.specs.Record.{body-length, states, start, events, counts, column, class, classes-below}
 use Rattle.part.specs.Record.{identifier, event-kind, row}
 use Rattle.part.specs.Rejections.{too-short, wrong-length, wrong-kind, out-of-range, wrong-size, misnumbered}
-use Rattle.part.specs.Rejections.{unnumbered, skips-at, misordered, falling, falls-at, unknown-kind, unknown-at}
+use Rattle.part.specs.Rejections.{unnumbered, skips-at, misordered, misordered-at, falls-at, unknown-at}
 use Rattle.part.specs.Rejections.{mislabelled-part, mislabelled-at, stray-bit, row-strays, strays-at}
 use Rattle.part.specs.Rejections.{frame-conditions, NoneOf, Accepted}
 use Rattle.part.specs.Layout.{Fields, counts-of, layout}
@@ -138,30 +137,27 @@ module _ (f : Fields) (p : Proper f) where
       let size = column-size _ (framed _ frame-clear) in
       any-fails _ _ (λ s l. le-ltb _ _ (class-step s (omega arith)))
 
-  rising : falling (layout f) ≡ false
-  unfolding falling falls-at
-  rising =
-      any-fails _ _
-      (λ i l.
+  rising : (i : ℕ) → i < events (layout f) → falls-at (layout f) i ≡ false
+  unfolding falls-at
+  rising zero l = refl
+  rising (suc i) l =
       let m : events (layout f) ≡ f .table .events = agree .tables .event-counts in
       let here : identifier (layout f) i ≡ f .table .identifier i = agree .tables .identifiers i (omega arith) in
       let next : identifier (layout f) (suc i)
       ≡ f .table .identifier (suc i) = agree .tables .identifiers (suc i) (omega arith) in
-      lt-leb (identifier (layout f) (i + 1)) (identifier (layout f) i)
-      (rw (add-one i) (omega (arith, p .identifiers-rise i (omega arith)))))
+      lt-leb (identifier (layout f) (suc i)) (identifier (layout f) i)
+      (omega (arith, p .identifiers-rise i (omega arith)))
 
-  known : unknown-kind (layout f) ≡ false
-  unfolding unknown-kind unknown-at
-  known =
-      any-fails _ _
-      (λ i l.
+  known : (i : ℕ) → i < events (layout f) → unknown-at (layout f) i ≡ false
+  unfolding unknown-at
+  known i l =
       let m : events (layout f) ≡ f .table .events = agree .tables .event-counts in
       let k : event-kind (layout f) i ≡ f .table .event-kind i = agree .tables .event-kinds i (omega arith) in
-      le-ltb max-event-kind (event-kind (layout f) i) (omega (arith, p .kinds i (omega arith))))
+      le-ltb max-event-kind (event-kind (layout f) i) (omega (arith, p .kinds i (omega arith)))
 
   ordered : misordered (layout f) ≡ false
-  unfolding misordered
-  ordered = or-then _ _ rising ∙ known
+  unfolding misordered misordered-at
+  ordered = any-fails _ _ (λ i l. or-then _ _ (rising i l) ∙ known i l)
 
   labelled : mislabelled-part (layout f) ≡ false
   unfolding mislabelled-part mislabelled-at

@@ -1,9 +1,8 @@
 -- The fields of an accepted record lie in their ranges.
-use Prim.Native.Nat.{ℕ, zero, suc, _+_, _^_, _≤_, _<_}
+use Prim.Native.Nat.{ℕ, zero, suc, _^_, _≤_, _<_}
 use mathlib.Core.Path.{_≡_}
 use mathlib.Core.Bool.{false}
 use mathlib.Core.List.{List}
-use native.Mathlib.Numerals.{add-one}
 use native.Mathlib.Decide.{decLe, decLt}
 use native.Mathlib.Omega.{arith}
 use lib.Dec.{T}
@@ -20,8 +19,8 @@ use Rattle.part.specs.Format.{max-event-kind}
 use Rattle.part.specs.Record.{observer, states, events, column, class, classes-below, identifier, event-kind}
 use Rattle.part.specs.Record.{level, row}
 use Rattle.part.specs.Frame.{Framed}
-use Rattle.part.specs.Rejections.{Accepted, misnumbered, unnumbered, skips-at, misordered, falling, falls-at}
-use Rattle.part.specs.Rejections.{unknown-kind, unknown-at, mislabelled-part, mislabelled-at, stray-bit}
+use Rattle.part.specs.Rejections.{Accepted, misnumbered, unnumbered, skips-at, misordered, misordered-at}
+use Rattle.part.specs.Rejections.{falls-at, unknown-at, mislabelled-part, mislabelled-at, stray-bit}
 use Rattle.part.specs.Rejections.{row-strays, strays-at}
 use Rattle.part.specs.MachineFacts.{start-below}
 use Rattle.part.specs.Theorems.{Ranges}
@@ -78,16 +77,19 @@ module _ (b : List ℕ) (a : Accepted b) where
 
   -- ---- the events
 
+  -- neither test of 7 holds at a place
+  in-place : (i : ℕ) → i < events b → misordered-at b i ≡ false
+  unfolding misordered
+  in-place = any-none _ _ (not-misordered b a)
+
   identifiers-rise : Rises (identifier b) (events b)
-  unfolding misordered falling falls-at
+  unfolding misordered-at falls-at
   identifiers-rise =
-      let adjacent = any-none _ _ (or-left _ _ (not-misordered b a)) in
-      rises (identifier b) (events b)
-      (λ i h. rw add-one at (leb-false (identifier b (i + 1)) (identifier b i) (adjacent i (omega arith))))
+      rises (identifier b) (events b) (λ i h. leb-false _ _ (or-left _ (unknown-at b (suc i)) (in-place (suc i) h)))
 
   kinds : (i : ℕ) → i < events b → event-kind b i ≤ max-event-kind
-  unfolding misordered unknown-kind unknown-at
-  kinds i h = ltb-false _ _ (any-none (unknown-at b) _ (or-right (falling b) _ (not-misordered b a)) i h)
+  unfolding misordered-at unknown-at
+  kinds i h = ltb-false _ _ (or-right (falls-at b i) _ (in-place i h))
 
   -- ---- the levels
 

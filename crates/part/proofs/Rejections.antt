@@ -1,17 +1,18 @@
 -- What each condition that does not hold tells of the record, and the tests of condition 4.
-use Prim.Native.Nat.{ℕ, _-_, _≤_, _<_}
-use mathlib.Core.Path.{_≡_}
+use Prim.Native.Nat.{ℕ, zero, suc, _-_, _≤_, _<_}
+use mathlib.Core.Path.{_≡_, refl}
 use mathlib.Core.Bool.{true, false}
 use mathlib.Core.List.{List}
 use native.Mathlib.Omega.{arith}
 use lib.ListN.{length}
-use lib.Dec.{ltb}
+use lib.Dec.{ltb, leb}
 use borrow.Author.Tests.{ltb-false, leb-false, eqb-true, not-false, le-ltb, lt-leb}
 use Rattle.bounded.proofs.Search.{or-left, or-right, is-true}
 use Rattle.part.specs.Format.{max-states, max-events, columns-at, body-size}
-use Rattle.part.specs.Record.{body-length, states, start, events, counts}
+use Rattle.part.specs.Record.{body-length, states, start, events, counts, identifier}
 use Rattle.part.specs.Frame.{Framed}
-use Rattle.part.specs.Rejections.{too-short, wrong-length, out-of-range, wrong-size, frame-conditions, NoneOf}
+use Rattle.part.specs.Rejections.{too-short, wrong-length, out-of-range, wrong-size, falls-at}
+use Rattle.part.specs.Rejections.{frame-conditions, NoneOf}
 use Rattle.part.proofs.Accepted.{not-too-short, not-wrong-length, not-out-of-range, not-wrong-size}
 
 module _ (b : List ℕ) where
@@ -67,3 +68,14 @@ module _ (b : List ℕ) where
         one-state = c .one-state;
         few = record { most-states = c .most-states; most-events = c .most-events };
       }
+
+  -- 7 asks nothing of the first identifier, and of each other one that it is above the one before it.
+  pub falls-first : (i : ℕ) → i ≡ 0 → falls-at b i ≡ false
+  unfolding falls-at
+  falls-first i e = rw e refl
+
+  pub falls-later : (i this last : ℕ) → (i ≡ 0 → ⊥) → this ≡ identifier b i → last ≡ identifier b (i - 1)
+      → leb this last ≡ falls-at b i
+  unfolding falls-at
+  falls-later zero this last n e d = absurd (n refl)
+  falls-later (suc i) this last n e d = let back : suc i - 1 ≡ i = omega arith in rw (e, d, back) refl

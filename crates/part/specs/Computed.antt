@@ -7,10 +7,10 @@ use Rattle.words.specs.Sets.{bit, exceeds}
 use Rattle.words.specs.LittleEndian.{number, digits}
 use Rattle.level.specs.Level.{rank, mislabelled}
 use Rattle.part.specs.Record.{body-length, kind, observer, states, start, events, column, classes-below, entry-at, identifier, event-kind, level, row-at, row}
-use Rattle.part.specs.Rejections.{too-short, wrong-length, wrong-kind, out-of-range, wrong-size, skips-at, unnumbered, misnumbered, falls-at, falling, unknown-at, unknown-kind, misordered, mislabelled-at, mislabelled-part, strays-at, row-strays, stray-bit, first-of, rejection}
+use Rattle.part.specs.Rejections.{too-short, wrong-length, wrong-kind, out-of-range, wrong-size, skips-at, unnumbered, misnumbered, falls-at, unknown-at, misordered-at, misordered, mislabelled-at, mislabelled-part, strays-at, row-strays, stray-bit, first-of, rejection}
 use Rattle.part.specs.Layout.{body, layout}
 
 -- The number that a record is rejected with; 0 where it is accepted.
 unfoldable pub rejected-with : List ℕ → ℕ
-unfolding rejection first-of too-short wrong-length wrong-kind out-of-range wrong-size misnumbered unnumbered skips-at misordered falling falls-at unknown-kind unknown-at mislabelled-part mislabelled-at mislabelled rank stray-bit row-strays strays-at body-length kind observer states start events column classes-below entry-at identifier event-kind level row-at row any bit exceeds number digits each layout body
+unfolding rejection first-of too-short wrong-length wrong-kind out-of-range wrong-size misnumbered unnumbered skips-at misordered misordered-at falls-at unknown-at mislabelled-part mislabelled-at mislabelled rank stray-bit row-strays strays-at body-length kind observer states start events column classes-below entry-at identifier event-kind level row-at row any bit exceeds number digits each layout body
 rejected-with b = elim (rejection b) [ none ↦ 0 | some k ↦ k ]

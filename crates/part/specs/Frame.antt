@@ -6,12 +6,12 @@ use mathlib.Core.List.{List}
 use mathlib.Core.Option.{none, some}
 use lib.ListN.{length}
 use Rattle.part.specs.declared.rejection.Fault.{Fault}
-use Rattle.part.specs.declared.rejection.Fault.the-variants.{UnknownKind, Mislabelled, StrayBit}
+use Rattle.part.specs.declared.rejection.Fault.the-variants.{Misordered, Mislabelled, StrayBit}
 use Rattle.part.specs.declared.format.Counts.{Counts}
 use Rattle.part.specs.Format.{max-states, max-events, record-size}
 use Rattle.part.specs.Events.{place}
 use Rattle.part.specs.Layout.{Table, Fields}
-use Rattle.part.specs.Rejections.{unknown-at, mislabelled-at, row-strays}
+use Rattle.part.specs.Rejections.{misordered-at, mislabelled-at, row-strays}
 use Rattle.part.specs.Record.{
   states,
   start,
@@ -65,6 +65,6 @@ place-or-end b e = elim (place b e) [ none ↦ events b | some i ↦ i ]
 
 -- The event at place i has the fault that a condition asks about.
 abbrev pub has-fault : Fault → List ℕ → ℕ → Bool
-has-fault UnknownKind = unknown-at
+has-fault Misordered = misordered-at
 has-fault Mislabelled = mislabelled-at
 has-fault StrayBit = row-strays

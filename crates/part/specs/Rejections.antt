@@ -1,5 +1,5 @@
 -- The rejections of a record (document 01, "Refusals out of the input", 1 to 8; document 02, d, 16).
-use Prim.Native.Nat.{ℕ, _+_, _-_}
+use Prim.Native.Nat.{ℕ, zero, suc, _-_}
 use mathlib.Core.Path.{_≡_}
 use mathlib.Core.Bool.{Bool, true, false, not, _||_}
 use mathlib.Core.List.{List, [], _∷_, _++_}
@@ -50,23 +50,22 @@ unnumbered column = any (length column) (skips-at column)
 unfoldable pub misnumbered : List ℕ → Bool
 misnumbered b = unnumbered (column b)
 
--- The identifier at place i + 1 is not above the one at place i.
+-- The identifier at place i is not above the one before it.
 unfoldable pub falls-at : List ℕ → ℕ → Bool
-falls-at b i = leb (identifier b (i + 1)) (identifier b i)
+falls-at b zero = false
+falls-at b (suc i) = leb (identifier b (suc i)) (identifier b i)
 
 -- The kind of the event at place i is above 2.
 unfoldable pub unknown-at : List ℕ → ℕ → Bool
 unknown-at b i = ltb max-event-kind (event-kind b i)
 
+-- One of these holds of the event at place i.
+unfoldable pub misordered-at : List ℕ → ℕ → Bool
+misordered-at b i = falls-at b i || unknown-at b i
+
 -- 7: the identifiers do not rise, or an event's kind is above 2.
-unfoldable pub falling : List ℕ → Bool
-falling b = any (events b - 1) (falls-at b)
-
-unfoldable pub unknown-kind : List ℕ → Bool
-unknown-kind b = any (events b) (unknown-at b)
-
 unfoldable pub misordered : List ℕ → Bool
-misordered b = falling b || unknown-kind b
+misordered b = any (events b) (misordered-at b)
 
 -- The level of the event at place i is mislabelled.
 unfoldable pub mislabelled-at : List ℕ → ℕ → Bool

@@ -5,7 +5,7 @@ ghost use mathlib.Core.Bool.{false};
 ghost use Rattle.part.specs.Record.{states, events};
 ghost use Rattle.bounded.specs.Search.{any};
 ghost use Rattle.part.specs.Frame.{Framed, has-fault};
-ghost use Rattle.part.specs.Rejections.{too-short, wrong-length, wrong-kind, out-of-range, wrong-size, unnumbered, falls-at, falling, misordered, mislabelled-part, row-strays, stray-bit, frame-conditions, content-conditions, first-of, rejection};
+ghost use Rattle.part.specs.Rejections.{too-short, wrong-length, wrong-kind, out-of-range, wrong-size, unnumbered, falls-at, misordered-at, mislabelled-part, row-strays, stray-bit, frame-conditions, content-conditions, first-of, rejection};
 ghost use Rattle.part.specs.Answers.{number-of, rejection-of};
 use crate::answer::Rejection;
 use crate::answer::Screening;
@@ -18,7 +18,7 @@ use words::set;
 
 // What 7, 16 and 8 ask of one event.
 enum Fault {
-    UnknownKind,
+    Misordered,
     Mislabelled,
     StrayBit,
 }
@@ -114,27 +114,28 @@ fn unnumbered(column: &[u8]) -> bool
     false
 }
 
+// The identifier at place i is not above the one before it.
 fn falls_at(b: &[u8], i: usize) -> bool
     requires { ⌜ Framed (now b) ⌝ }
-    requires { ⌜ i + 1 < events (now b) ⌝ }
+    requires { ⌜ i < events (now b) ⌝ }
     ensures { λ r. ⌜ r ≡ falls-at (now (b .entry)) i ⌝ }
 {
-    Part::identifier(b, i + 1) <= Part::identifier(b, i)
+    if i == 0 {
+        return false;
+    }
+    Part::identifier(b, i) <= Part::identifier(b, i - 1)
 }
 
-fn falling(b: &[u8]) -> bool
+// The event at place i is not behind the one before it, or its kind is unknown.
+fn misordered_at(b: &[u8], i: usize) -> bool
     requires { ⌜ Framed (now b) ⌝ }
-    ensures { λ r. ⌜ r ≡ falling (now (b .entry)) ⌝ }
+    requires { ⌜ i < events (now b) ⌝ }
+    ensures { λ r. ⌜ r ≡ misordered-at (now (b .entry)) i ⌝ }
 {
-    let m = Part::events(b);
-    let mut i = 0;
-    while i + 1 < m {
-        if falls_at(b, i) {
-            return true;
-        }
-        i += 1;
+    if falls_at(b, i) {
+        return true;
     }
-    false
+    Part::EVENT_KIND < Part::event_kind(b, i)
 }
 
 // Some row of the event has a bit at n or above: the union of its rows has one.
@@ -160,7 +161,7 @@ fn has_fault(b: &[u8], i: usize, fault: Fault) -> bool
     ensures { λ r. ⌜ r ≡ has-fault fault (now (b .entry)) i ⌝ }
 {
     match fault {
-        Fault::UnknownKind => Part::EVENT_KIND < Part::event_kind(b, i),
+        Fault::Misordered => misordered_at(b, i),
         Fault::Mislabelled => Level::is_mislabelled(Part::level(b, i)),
         Fault::StrayBit => row_strays(b, i),
     }
@@ -180,16 +181,6 @@ fn some_fault(b: &[u8], fault: Fault) -> bool
         i += 1;
     }
     false
-}
-
-fn misordered(b: &[u8]) -> bool
-    requires { ⌜ Framed (now b) ⌝ }
-    ensures { λ r. ⌜ r ≡ misordered (now (b .entry)) ⌝ }
-{
-    if falling(b) {
-        return true;
-    }
-    some_fault(b, Fault::UnknownKind)
 }
 
 fn mislabelled(b: &[u8]) -> bool
@@ -243,7 +234,7 @@ fn screen_content(b: &[u8]) -> Screening
     if unnumbered(Part::column(b)) {
         return Screening::Rejected(Rejection::Misnumbered);
     }
-    if misordered(b) {
+    if some_fault(b, Fault::Misordered) {
         return Screening::Rejected(Rejection::Misordered);
     }
     if mislabelled(b) {

@@ -1,13 +1,13 @@
 use borrow.Author.Needs.{needs}
-use Rattle.part.specs.Rejections.{unknown-at, mislabelled-at}
+use Rattle.part.specs.Rejections.{mislabelled-at}
 use Rattle.part.proofs.rejection.has_fault.Statement.{statement}
 use Rattle.part.proofs.rejection.has_fault.Tie as tie
 
 enum-told : tie.Need-enum-told
 enum-told c = search needs
 
-event-kind-requires : tie.Need-event-kind-requires
-event-kind-requires c κs = search needs
+misordered-at-requires : tie.Need-misordered-at-requires
+misordered-at-requires c κs = search needs
 
 enum-told-2 : tie.Need-enum-told-2
 enum-told-2 c = search needs
@@ -25,8 +25,7 @@ row-strays-requires : tie.Need-row-strays-requires
 row-strays-requires c κs = search needs
 
 returns : tie.Need-returns
-unfolding unknown-at
-returns c = rw (c .before .enum-told .given .1) (let read = c .event-kind .ensures .0 in cc)
+returns c = rw (c .before .enum-told .given .1) (c .misordered-at .ensures)
 
 returns-2 : tie.Need-returns-2
 unfolding mislabelled-at
@@ -38,5 +37,5 @@ returns-3 : tie.Need-returns-3
 returns-3 c = rw (c .before .enum-told3 .given .1) (c .row-strays .ensures)
 
 pub has-fault-spec : {M : Type 1} → statement M
-has-fault-spec = tie.close (tie.spec enum-told event-kind-requires enum-told-2 level-requires is-mislabelled-requires
+has-fault-spec = tie.close (tie.spec enum-told misordered-at-requires enum-told-2 level-requires is-mislabelled-requires
     enum-told-3 row-strays-requires returns returns-2 returns-3)

@@ -6,7 +6,7 @@ use denote.Ref.{now}
 use lib.ListN.{drop}
 use borrow.Author.Needs.{needs}
 use Rattle.part.specs.Answers.{rejection-of}
-use Rattle.part.specs.Rejections.{misnumbered, content-conditions, first-of}
+use Rattle.part.specs.Rejections.{misnumbered, misordered, content-conditions, first-of}
 use Rattle.part.proofs.Accepted.{skip, hit}
 use Rattle.part.proofs.rejection.screen_content.Statement.{statement}
 use Rattle.part.proofs.rejection.screen_content.Tie as tie
@@ -20,6 +20,7 @@ unfolding misnumbered
 past-1 c = skip _ _ _ cc
 
 past-2 : (c : tie.Else2) → Passed 2 (now (c .before .before .before .before .before .before .args .b))
+unfolding misordered
 past-2 c = past-1 (c .before .before) ∙ skip _ _ _ cc
 
 past-3 : (c : tie.Else3) → Passed 3 (now (c .before .before .before .before .before .before .before .before .args .b))
@@ -39,11 +40,11 @@ returns : tie.Need-returns
 unfolding rejection-of misnumbered
 returns c = sym (hit _ _ _ cc)
 
-misordered-requires : tie.Need-misordered-requires
-misordered-requires c κs = search needs
+some-fault-requires : tie.Need-some-fault-requires
+some-fault-requires c κs = search needs
 
 returns-2 : tie.Need-returns-2
-unfolding rejection-of
+unfolding rejection-of misordered
 returns-2 c = sym (past-1 (c .before .before) ∙ hit _ _ _ cc)
 
 mislabelled-requires : tie.Need-mislabelled-requires
@@ -65,5 +66,5 @@ unfolding first-of rejection-of
 returns-5 c = sym (past-4 c)
 
 pub screen-content-spec : {M : Type 1} → statement M
-screen-content-spec = tie.close (tie.spec column-requires unnumbered-requires returns misordered-requires returns-2
+screen-content-spec = tie.close (tie.spec column-requires unnumbered-requires returns some-fault-requires returns-2
     mislabelled-requires returns-3 stray-bit-requires returns-4 returns-5)
