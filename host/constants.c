@@ -70,8 +70,7 @@ static void closures(void)
 {
     static uint8_t line[65536], smallest[64];
     size_t len = frame(line, HOOKUP_MAX_STATES, 1), last = HOOKUP_MAX_STATES - 1;
-    entry(line, 0)[2] = 2;
-    entry(line, 0)[3] = 0x40;
+    entry(line, 0)[2] = 2; /* internal, so silent */
     for (size_t s = 0; s < last; s++)
         step(line, 0, s, s + 1);
     expect(HOOKUP_CLOSURE_PIECE, HOOKUP_CLOSURE_SET + 2 * HOOKUP_CLOSURE_VISITS, "bytes of a set, visits and distances");
@@ -104,7 +103,7 @@ static void expect_numbers(struct hookup_explanation wanted)
     expect(wanted.limit, got.limit, "limit");
 }
 
-/* Seven states, of which 1 and 6 share a class, and the observer 0x80. The low output 515 leads from 1 to 4, and the high internal event
+/* Seven states, of which 1 and 6 share a class, and the observer 0x80. The low output 515 leads from 1 to 4, and the internal event
  * 600 from 0 to 2. So rule 5 is broken, since 515 has no step from 6, and the closure of 0 has two states. */
 static size_t make_break(uint8_t *record)
 {

@@ -36,8 +36,8 @@ static const struct meaning meanings[] = {
     {HOOKUP_BREAK + 1, true, "rule 1 is broken: an input has no step from some state"},
     {HOOKUP_BREAK + 2, true, "rule 2 is broken: a high input leaves its state's class"},
     {HOOKUP_BREAK + 3, true, "rule 3 is broken: a low input leads from one state to a class where it does not lead from another of the same class"},
-    {HOOKUP_BREAK + 4, true, "rule 4 is broken: a high output or internal event leads to a class that another state of the same class cannot reach by silent steps"},
-    {HOOKUP_BREAK + 5, true, "rule 5 is broken: a low output or internal event leads to a class that another state of the same class cannot reach by it and silent steps"},
+    {HOOKUP_BREAK + 4, true, "rule 4 is broken: a silent event (a high output or an internal event) leads to a class that another state of the same class cannot reach by silent steps"},
+    {HOOKUP_BREAK + 5, true, "rule 5 is broken: a low output leads to a class that another state of the same class cannot reach by it and silent steps"},
 };
 
 static const struct meaning *find_meaning(uint32_t answer)

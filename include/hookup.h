@@ -55,7 +55,7 @@ extern "C" {
  *
  * record may be null only where len is 0; otherwise it points to len readable bytes. The call reads nothing else, keeps
  * nothing, takes no lock, and may be made by several threads at once. It needs less
- * than 10 KB of stack: 5,640 bytes were measured on records of 64 states and 32 events, 7,400 on a first call, in which the loader
+ * than 10 KB of stack: 5,624 bytes were measured on records of 64 states and 32 events, 7,400 on a first call, in which the loader
  * resolves memset. */
 uint32_t hookup_check(const uint8_t *record, size_t len);
 
@@ -71,10 +71,11 @@ uint32_t hookup_check(const uint8_t *record, size_t len);
  *
  * out may not overlap a record; a and b may be the same bytes. A pointer may be null only where its length is 0. The call reads and
  * writes nothing else, keeps nothing, takes no lock, and may be made by several threads at once. It needs less than
- * 12 KB of stack: 8,376 bytes were measured on full records, 10,152 on a first call. */
+ * 12 KB of stack: 8,360 bytes were measured on full records, 10,088 on a first call. */
 uint32_t hookup_join(const uint8_t *a, size_t alen, const uint8_t *b, size_t blen, uint8_t *out, size_t outlen);
 
-/* Writes, for a debugger, where silent steps lead from each state of a part, for the record's own observer.
+/* Writes, for a debugger, where silent steps lead from each state of a part, for the record's own observer. An event is silent if it is a
+ * high output or, at any level, internal.
  *
  * Answers HOOKUP_CLOSED if it did. out then begins with a piece of HOOKUP_CLOSURE_PIECE bytes for each state s, in the order of the
  * states, whose number is the record's byte HOOKUP_HEADER + 1:
@@ -115,7 +116,7 @@ struct hookup_explanation {
  * bytes than that, the answer for a pass or a break is HOOKUP_NO_ROOM and nothing is written.
  *
  * out may not overlap the record. A pointer may be null only where its length is 0. The call reads and writes nothing else, keeps
- * nothing, takes no lock, and may be made by several threads at once. It needs less than 10 KB of stack: 5,672 bytes were
+ * nothing, takes no lock, and may be made by several threads at once. It needs less than 10 KB of stack: 5,656 bytes were
  * measured on records of 64 states and 32 events, 7,464 on a first call. */
 uint32_t hookup_explain(const uint8_t *record, size_t len, uint8_t *out, size_t outlen);
 

@@ -80,9 +80,14 @@ impl Part {
         groups
     }
 
-    /// Needed for drawings only.
+    /// Is the event low? Needed for the words of a verdict and for drawings only, as is what the observer sees.
     pub fn is_low(&self, event: &Event) -> bool {
         event.level.at_or_below(self.observer)
+    }
+
+    /// Does the observer see the event? It sees low inputs and low outputs, and no internal event, whatever its level.
+    pub fn is_seen(&self, event: &Event) -> bool {
+        event.kind != Kind::Internal && self.is_low(event)
     }
 }
 
@@ -149,6 +154,21 @@ mod tests {
     fn groups_come_by_their_smallest_state() {
         let part = Part { observer: Level(0), start: 0, classes: vec![0, 1, 0, 2, 1], events: Vec::new() };
         assert_eq!(part.groups(), [vec![0, 2], vec![1, 4], vec![3]]);
+    }
+
+    #[test]
+    fn what_an_observer_of_rank_1_sees() {
+        let part = Part { observer: Level::of_rank(1), start: 0, classes: vec![0], events: Vec::new() };
+        let mut seen = Vec::new();
+        for kind in Kind::ALL {
+            for rank in 0..=3 {
+                let event = Event { identifier: 0, kind, level: Level::of_rank(rank), rows: vec![0] };
+                if part.is_seen(&event) {
+                    seen.push((kind, rank));
+                }
+            }
+        }
+        assert_eq!(seen, [(Kind::Input, 0), (Kind::Input, 1), (Kind::Output, 0), (Kind::Output, 1)]);
     }
 
     #[test]

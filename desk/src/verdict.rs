@@ -50,23 +50,26 @@ pub fn read(line: &str) -> Result<Verdict, String> {
     found.ok_or_else(|| format!("{FORMS}, found '{}'", line.trim()))
 }
 
-/// Is a rule about events of this kind and level?
-fn concerns(rule: usize, event: &Event, low: bool) -> bool {
-    let input = event.kind == Kind::Input;
-    match rule {
-        1 => input,
-        2 => input && !low,
-        3 => input && low,
-        4 => !input && !low,
-        _ => !input && low,
+/// Is a rule about this event? Rule 4 is about silent events: high outputs, and internal events of any level.
+fn concerns(rule: usize, part: &Part, event: &Event) -> bool {
+    let low = part.is_low(event);
+    match (rule, event.kind) {
+        (1, Kind::Input) => true,
+        (2, Kind::Input) => !low,
+        (3, Kind::Input) => low,
+        (4, Kind::Output) => !low,
+        (4, Kind::Internal) => true,
+        (5, Kind::Output) => low,
+        _ => false,
     }
 }
 
-fn high_or_low(low: bool) -> &'static str {
-    if low {
-        "low"
-    } else {
-        "high"
+/// `high input`, `low output`; an internal event is called just that, since its level plays no part.
+fn kind_words(part: &Part, event: &Event) -> String {
+    let level = if part.is_low(event) { "low" } else { "high" };
+    match event.kind {
+        Kind::Internal => "internal event".to_string(),
+        kind => format!("{level} {}", kind.word()),
     }
 }
 
@@ -105,10 +108,9 @@ fn fits_break(part: &Part, named: &Break) -> Result<(), String> {
     if let Some(state) = [named.s, named.t, named.u].into_iter().find(|&state| state > last) {
         return Err(format!("there is no state {state}, the last is {last}"));
     }
-    let low = part.is_low(event);
-    if !concerns(named.rule, event, low) {
-        let (rule, level, kind) = (named.rule, high_or_low(low), event.kind.word());
-        return Err(format!("rule {rule} is not about event {}, which is {level} and {kind}", named.event));
+    if !concerns(named.rule, part, event) {
+        let (rule, kind) = (named.rule, kind_words(part, event));
+        return Err(format!("rule {rule} is not about the {kind} {}", named.event));
     }
     match named.rule {
         1 => fits_rule_1(event, named),
@@ -126,15 +128,10 @@ pub fn fits(part: &Part, verdict: &Verdict) -> Result<(), String> {
     fit.map_err(|why| format!("the verdict line is not about this part: {why}"))
 }
 
-/// `the high input 7 "send"`; an internal event is called one.
+/// `the high input 7 "send"`
 fn event_words(table: &Table, event: &Event) -> String {
-    let level = high_or_low(table.part.is_low(event));
-    let kind = match event.kind {
-        Kind::Internal => "internal event",
-        kind => kind.word(),
-    };
     let name = table.names.event(event.identifier).map(|name| format!(" \"{name}\"")).unwrap_or_default();
-    format!("the {level} {kind} {}{name}", event.identifier)
+    format!("the {} {}{name}", kind_words(&table.part, event), event.identifier)
 }
 
 /// `s (state 0, idle)`
@@ -155,8 +152,8 @@ fn broken_words(table: &Table, named: &Break) -> String {
         rule => {
             let missing = match rule {
                 3 => "this input leads from u to no state of t's class",
-                4 => "quiet steps lead from u to no state of t's class, and u itself is not in it",
-                _ => "quiet steps, this event and quiet steps lead from u to no state of t's class",
+                4 => "silent steps lead from u to no state of t's class, and u itself is not in it",
+                _ => "silent steps, this output and silent steps lead from u to no state of t's class",
             };
             format!("{it} leads from {s} to {t}. But {u} is in the class of s, and {missing}.")
         }
@@ -177,7 +174,7 @@ mod tests {
     use super::*;
     use crate::reader;
 
-    /// Event 1 is a high input, 2 a low one, 3 a high output, 4 a low one, 5 a low internal event.
+    /// Event 1 is a high input, 2 a low one, 3 a high output, 4 a low one; 5 and 6 are internal, 5 at a low level.
     const TABLE: &str = "part
 observer rank 1 compartments none
 states a b c
@@ -192,7 +189,9 @@ event 3 \"out\" output rank 1 compartments 0
 event 4 output rank 1 compartments none
   a -> c
 event 5 internal rank 1 compartments none
-  c -> c
+  a -> c
+event 6 \"turn\" internal rank 2 compartments none
+  a -> c
 ";
 
     fn table() -> Table {
@@ -268,18 +267,19 @@ event 5 internal rank 1 compartments none
     /// Each rule is about its own events.
     #[test]
     fn rules_and_their_events() {
-        let about = [(1, vec![1, 2]), (2, vec![1]), (3, vec![2]), (4, vec![3]), (5, vec![4, 5])];
+        let about = [(1, vec![1, 2]), (2, vec![1]), (3, vec![2]), (4, vec![3, 5, 6]), (5, vec![4])];
         for (rule, events) in about {
-            for event in 1..=5 {
+            for event in 1..=6 {
                 let result = fit(&format!("rule {rule} event {event} from 0 to 2 other 1"));
-                let wrong = result.is_err_and(|why| why.contains(&format!("rule {rule} is not about event {event}, ")));
+                let wrong = result.is_err_and(|why| why.contains(&format!("rule {rule} is not about the ")));
                 assert_eq!(wrong, !events.contains(&event), "rule {rule} event {event}");
             }
         }
-        assert_eq!(
-            misfit("rule 4 event 5 from 2 to 2 other 2"),
-            "rule 4 is not about event 5, which is low and internal"
-        );
+        assert_eq!(misfit("rule 2 event 2 from 0 to 2 other 0"), "rule 2 is not about the low input 2");
+        assert_eq!(misfit("rule 5 event 3 from 0 to 2 other 1"), "rule 5 is not about the high output 3");
+        assert_eq!(misfit("rule 4 event 4 from 0 to 2 other 1"), "rule 4 is not about the low output 4");
+        assert_eq!(misfit("rule 5 event 5 from 0 to 2 other 1"), "rule 5 is not about the internal event 5");
+        assert_eq!(misfit("rule 1 event 6 from 1 to 0 other 0"), "rule 1 is not about the internal event 6");
     }
 
     #[test]
@@ -296,14 +296,16 @@ event 5 internal rank 1 compartments none
         let three =
             format!("Rule 3 is broken: the low input 2 {from} this input leads from u to no state of t's class.");
         assert_eq!(in_words("rule 3 event 2 from 0 to 2 other 1"), three);
-        let four = "quiet steps lead from u to no state of t's class, and u itself is not in it.";
-        let four = format!("Rule 4 is broken: the high output 3 \"out\" {from} {four}");
-        assert_eq!(in_words("rule 4 event 3 from 0 to 2 other 1"), four);
-        let five = "quiet steps, this event and quiet steps lead from u to no state of t's class.";
+        let missing = "silent steps lead from u to no state of t's class, and u itself is not in it.";
+        let silent = [(3, "high output 3 \"out\""), (5, "internal event 5"), (6, "internal event 6 \"turn\"")];
+        for (event, it) in silent {
+            let four = format!("Rule 4 is broken: the {it} {from} {missing}");
+            assert_eq!(in_words(&format!("rule 4 event {event} from 0 to 2 other 1")), four);
+        }
+        let five = "silent steps, this output and silent steps lead from u to no state of t's class.";
         assert_eq!(
             in_words("rule 5 event 4 from 0 to 2 other 1"),
             format!("Rule 5 is broken: the low output 4 {from} {five}")
         );
-        assert!(in_words("rule 5 event 5 from 2 to 2 other 2").contains("the low internal event 5 leads from"));
     }
 }

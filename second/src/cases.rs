@@ -1,7 +1,9 @@
 //! Collections of records that hold each category often enough, by the checker's own verdict.
 
 use crate::category::{self, Tally};
+use crate::category_internal;
 use crate::category_label::{self, BAD_LEVELS, GOOD_LEVELS};
+use crate::check;
 use crate::make::{self, Wanted};
 use crate::record::{self, ORDER};
 use crate::rng::Rng;
@@ -232,6 +234,7 @@ pub fn passing(rng: &mut Rng, minimum: usize) -> Vec<Vec<u8>> {
         } else {
             make::passing_of_size(rng, n, m)
         };
+        let part = if round % 8 == 2 { make::regrouped(rng, &part) } else { part };
         let bytes = record::write(&part);
         let names = category::of_record(&bytes);
         keep_if_wanted(&mut tally, &mut kept, bytes, &names);
@@ -253,6 +256,42 @@ pub fn quiet(rng: &mut Rng, minimum: usize) -> Vec<Vec<u8>> {
         keep_if_wanted(&mut tally, &mut kept, bytes, &names);
     }
     kept
+}
+
+/// Records for the categories of internal events.
+pub fn internal(rng: &mut Rng, minimum: usize) -> Vec<Vec<u8>> {
+    let mut tally = tally_of(&category_internal::names(), minimum);
+    let mut kept = Vec::new();
+    for round in 0..MOST_TRIES {
+        if tally.too_few().is_empty() {
+            break;
+        }
+        let bytes = record::write(&one_with_internal_events(rng, round));
+        if let Some(judged) = category_internal::judged(&bytes, check::check(&bytes)) {
+            keep_if_wanted(&mut tally, &mut kept, bytes, &judged.names());
+        }
+    }
+    kept
+}
+
+/// A part that passes or breaks rule 4 or 5 whose quiet events are internal for the most part.
+fn one_with_internal_events(rng: &mut Rng, round: usize) -> record::Part {
+    let part = match round % 4 {
+        0 => make::any_passing(rng),
+        1 => {
+            let part = make::small_passing(rng);
+            make::changed_steps(rng, &part)
+        }
+        _ => {
+            let wanted = Wanted::anywhere(rng, 4 + (round as u32 / 4) % 2);
+            let n = rng.range(3, 7);
+            match make::breaking(rng, wanted, n, 4) {
+                Some(part) => part,
+                None => make::small_passing(rng),
+            }
+        }
+    };
+    make::with_quiet_events_internal(rng, &part)
 }
 
 /// Records on which a wrong reading of the rules would give another verdict.
@@ -295,7 +334,12 @@ mod tests {
     fn fills(records: &[Vec<u8>], names: &[String], minimum: usize) {
         let mut tally = tally_of(names, minimum);
         for bytes in records {
-            for name in category::of_record(bytes).into_iter().chain(category_label::of_record(bytes)) {
+            let mut names = category::of_record(bytes);
+            names.extend(category_label::of_record(bytes));
+            if let Some(judged) = category_internal::judged(bytes, check::check(bytes)) {
+                names.extend(judged.names());
+            }
+            for name in names {
                 tally.count_if_known(&name);
             }
         }
@@ -309,6 +353,7 @@ mod tests {
         fills(&breaking(&mut rng, 5), &category::break_names(), 5);
         fills(&passing(&mut rng, 3), &category::pass_names(), 3);
         fills(&mislabelled(&mut rng, 5), &category_label::names(), 5);
+        fills(&internal(&mut rng, 5), &category_internal::names(), 5);
         let quiet_names = [category::QUIET_IGNORED.to_string(), category::QUIET_REMOVED.to_string()];
         fills(&quiet(&mut rng, 5), &quiet_names, 5);
     }

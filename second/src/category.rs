@@ -1,6 +1,7 @@
 //! Categories of inputs, by the checker's own verdict, and how often each came up.
 
 use crate::check::{self, Verdict};
+use crate::closure::least_steps;
 use crate::record::{self, incomparable, Part, ORDER};
 use crate::wrong;
 use std::collections::{BTreeMap, BTreeSet};
@@ -175,7 +176,7 @@ fn pass_categories(part: &Part) -> Vec<String> {
     if part.class_count() == 64 {
         names.push(PASS_BOUNDARIES[8].to_string());
     }
-    if n > 32 && !wrong::passes_with_few_quiet_steps(part, 31) {
+    if n > 32 && leads_farther(part, 31) && !wrong::passes_with_few_quiet_steps(part, 31) {
         names.push(PASS_BOUNDARIES[9].to_string());
     }
     if n >= 8 && part.class_count() >= 2 {
@@ -187,6 +188,12 @@ fn pass_categories(part: &Part) -> Vec<String> {
         }
     }
     names
+}
+
+/// Is some state in a quiet reach only by more than `limit` quiet steps?
+fn leads_farther(part: &Part, limit: usize) -> bool {
+    let table = check::quiet_steps(part);
+    (0..part.state_count()).any(|s| least_steps(&table, s).into_iter().flatten().any(|steps| steps > limit))
 }
 
 fn break_categories(part: &Part, found: check::Break) -> Vec<String> {
@@ -240,7 +247,12 @@ fn break_categories(part: &Part, found: check::Break) -> Vec<String> {
 
 /// The categories of a record's bytes, by Check.
 pub fn of_record(bytes: &[u8]) -> Vec<String> {
-    match check::check(bytes) {
+    of_verdict(bytes, check::check(bytes))
+}
+
+/// The same with Check's verdict on the record.
+pub fn of_verdict(bytes: &[u8], verdict: Verdict) -> Vec<String> {
+    match verdict {
         Verdict::Refused(number) => vec![format!("refused {}", number)],
         Verdict::Pass => pass_categories(&record::read(bytes).unwrap()),
         Verdict::Breaks(found) => break_categories(&record::read(bytes).unwrap(), found),

@@ -1,5 +1,6 @@
 //! Categories of closures, by the checker's own answer.
 
+use crate::category_internal::{add_to_a_reach, has_step, low_internal_events, quiet_steps_without};
 use crate::check::{self, Verdict};
 use crate::closure::{self, ClosureAnswer, PIECE};
 use crate::record::{self, Part, ORDER};
@@ -12,12 +13,13 @@ pub fn is_main(name: &str) -> bool {
 
 const CLOSED: &str = "closed";
 const NO_WRONG_ORDER: &str = "closed, no wrong order gives the visits from some state";
+const SHORTER: &str = "closed, a low internal event adds to no set and makes a distance shorter";
 
 /// The longest closures, of 64 states.
 pub const LONGEST: usize = 64 * PIECE;
 
-/// The wrong orders and distances are tried on parts of so many states at most; on larger ones they would take too
-/// long. The longest ways are tried on fewer.
+/// The wrong orders and distances, and the steps without an event, are tried on parts of so many states at most; on
+/// larger ones they would take too long. The longest ways are tried on fewer.
 const MOST_STATES_MISREAD: usize = 24;
 const MOST_STATES_LONGEST_WAY: usize = 5;
 
@@ -68,6 +70,13 @@ pub fn names() -> Vec<String> {
         "closed, state 0 neither the first visit nor the last",
         "closed, state 63 neither the first visit nor the last",
         "closed, three quiet events or more, none to be spared",
+        "closed, a high output adds to a set",
+        "closed, a high internal event adds to a set",
+        "closed, a low internal event adds to a set",
+        "closed, a low internal event of the observer's own level adds to a set",
+        "closed, a low internal event of another level adds to a set",
+        SHORTER,
+        "closed, low internal events alone have quiet steps, one adds to a set",
     ] {
         names.push(name.to_string());
     }
@@ -83,16 +92,20 @@ pub fn names() -> Vec<String> {
     names
 }
 
-/// The categories of one call with an output buffer of `room` bytes.
-pub fn of_closure(bytes: &[u8], room: usize, answer: ClosureAnswer) -> Vec<String> {
+/// The categories of one call with an output buffer of `room` bytes, given Check's verdict on the record.
+pub fn of_closure(bytes: &[u8], room: usize, answer: ClosureAnswer, verdict: Verdict) -> Vec<String> {
     match answer {
         ClosureAnswer::Length(length) => {
             let part = record::read(bytes).unwrap();
             let table = check::quiet_steps(&part);
             let reaches = check::quiet_reaches(&part);
-            let mut names = vec![CLOSED.to_string(), rule_name(bytes)];
+            let mut names = vec![CLOSED.to_string(), rule_name(verdict)];
             names.extend(size_names(&part, room - length));
-            names.extend(event_names(&part, &reaches));
+            names.extend(event_names(&part));
+            if part.state_count() <= MOST_STATES_MISREAD {
+                names.extend(needed_names(&part, &reaches));
+                names.extend(shorter_name(&part, &reaches, &table));
+            }
             names.extend(table_names(&table, &reaches));
             names.extend(visit_names(&table));
             names.extend(wrong_step_names(&part, &table, &reaches));
@@ -126,8 +139,8 @@ fn no_room_names(part: &Part, room: usize) -> Vec<String> {
 }
 
 /// What Check says of the part; the closures do not ask.
-fn rule_name(bytes: &[u8]) -> String {
-    match check::check(bytes) {
+fn rule_name(verdict: Verdict) -> String {
+    match verdict {
         Verdict::Pass => "closed, passes".to_string(),
         Verdict::Breaks(found) => format!("closed, breaks rule {}", found.rule),
         Verdict::Refused(_) => unreachable!(),
@@ -154,27 +167,61 @@ fn size_names(part: &Part, spare: usize) -> Vec<String> {
     names
 }
 
-fn event_names(part: &Part, reaches: &[Vec<bool>]) -> Vec<String> {
-    let quiet: Vec<usize> = (0..part.event_count()).filter(|&e| check::is_quiet(part, e)).collect();
-    let has_step = |e: usize| part.steps[e].iter().any(|row| row.contains(&true));
+fn event_names(part: &Part) -> Vec<String> {
+    let quiet: Vec<usize> = (0..part.event_count()).filter(|&e| part.is_quiet(e)).collect();
     let mut names = Vec::new();
     if quiet.is_empty() {
         names.push("closed, no quiet event".to_string());
-    } else if !quiet.iter().any(|&e| has_step(e)) {
+    } else if !quiet.iter().any(|&e| has_step(part, e)) {
         names.push("closed, quiet events without a step".to_string());
-    }
-    if quiet.len() >= 3 && quiet.iter().all(|&e| is_needed(part, reaches, e)) {
-        names.push("closed, three quiet events or more, none to be spared".to_string());
     }
     names
 }
 
-/// Is some quiet reach smaller without the event?
-fn is_needed(part: &Part, reaches: &[Vec<bool>], e: usize) -> bool {
-    let n = part.state_count();
-    let mut without = part.clone();
-    without.steps[e] = vec![vec![false; n]; n];
-    check::quiet_reaches(&without) != reaches
+/// By the events without which some quiet reach would be smaller.
+fn needed_names(part: &Part, reaches: &[Vec<bool>]) -> Vec<String> {
+    let quiet: Vec<usize> = (0..part.event_count()).filter(|&e| part.is_quiet(e)).collect();
+    let needed: Vec<usize> = quiet.iter().copied().filter(|&e| add_to_a_reach(part, reaches, &[e])).collect();
+    let mut names = Vec::new();
+    for &e in &needed {
+        for name in names_of_event(part, e) {
+            let name = format!("closed, {} adds to a set", name);
+            if !names.contains(&name) {
+                names.push(name);
+            }
+        }
+    }
+    if quiet.len() >= 3 && needed == quiet {
+        names.push("closed, three quiet events or more, none to be spared".to_string());
+    }
+    let are_low_internal = quiet.iter().all(|&e| !has_step(part, e) || (part.is_internal(e) && part.is_low(e)));
+    if are_low_internal && !needed.is_empty() {
+        names.push("closed, low internal events alone have quiet steps, one adds to a set".to_string());
+    }
+    names
+}
+
+/// A quiet event in words.
+fn names_of_event(part: &Part, e: usize) -> &'static [&'static str] {
+    if part.is_output(e) {
+        &["a high output"]
+    } else if part.is_high(e) {
+        &["a high internal event"]
+    } else if part.events[e].level == part.observer {
+        &["a low internal event", "a low internal event of the observer's own level"]
+    } else {
+        &["a low internal event", "a low internal event of another level"]
+    }
+}
+
+/// By the low internal events that make a distance shorter and nothing else.
+fn shorter_name(part: &Part, reaches: &[Vec<bool>], table: &[Vec<bool>]) -> Option<String> {
+    let shortens = |e: usize| {
+        let others = quiet_steps_without(part, &[e]);
+        !add_to_a_reach(part, reaches, &[e])
+            && (0..table.len()).any(|s| closure::least_steps(&others, s) != closure::least_steps(table, s))
+    };
+    low_internal_events(part).into_iter().any(shortens).then(|| SHORTER.to_string())
 }
 
 /// By the single quiet steps; those that stay in their state do not count for a shape.

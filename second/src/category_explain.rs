@@ -1,5 +1,6 @@
 //! Categories of explanations, by the checker's own answer.
 
+use crate::category_internal::{add_to_a_reach, has_step, low_internal_events};
 use crate::check::{self, Break, Verdict};
 use crate::explain::{sum_of_sizes, ExplainAnswer, Explanation, EXPLANATION};
 use crate::record::{self, Part, ORDER};
@@ -80,6 +81,9 @@ pub fn names() -> Vec<String> {
         "explained, passes, each state in its own class, a quiet step leads on",
         "explained, passes, one class, a quiet step leads on",
         "explained, passes, several classes and fewer than states, a quiet step leads on",
+        "explained, passes, a low internal event adds to the count",
+        "explained, breaks rule 4, a low internal event adds to the count",
+        "explained, breaks rule 5, a low internal event adds to the count",
     ] {
         names.push(name.to_string());
     }
@@ -114,6 +118,7 @@ pub fn of_explain(bytes: &[u8], room: usize, answer: ExplainAnswer) -> Vec<Strin
             }
             if explanation.taken > part.state_count() as u64 {
                 names.push(COUNT_ABOVE_N.to_string());
+                names.extend(internal_name(&part, &reaches, &explanation));
             }
             if part.state_count() <= MOST_STATES_MISREAD {
                 names.extend(wrong_count_names(&part, &reaches, &explanation));
@@ -201,8 +206,8 @@ fn pass_names(part: &Part, explanation: &Explanation) -> Vec<String> {
     let n = part.state_count() as u64;
     let classes = part.class_count() as u64;
     let taken = explanation.taken;
-    let quiet: Vec<usize> = (0..part.event_count()).filter(|&e| check::is_quiet(part, e)).collect();
-    let has_step = quiet.iter().any(|&e| part.steps[e].iter().any(|row| row.contains(&true)));
+    let quiet: Vec<usize> = (0..part.event_count()).filter(|&e| part.is_quiet(e)).collect();
+    let has_step = quiet.iter().any(|&e| has_step(part, e));
     let mut names = Vec::new();
     let mut add = |applies: bool, name: &str| {
         if applies {
@@ -230,6 +235,13 @@ fn pass_names(part: &Part, explanation: &Explanation) -> Vec<String> {
     names
 }
 
+/// By the low internal events that count, where there is a count.
+fn internal_name(part: &Part, reaches: &[Vec<bool>], explanation: &Explanation) -> Option<String> {
+    let verdict = verdict_name(explanation.rule as u32);
+    let adds = add_to_a_reach(part, reaches, &low_internal_events(part));
+    adds.then(|| format!("explained, {}, a low internal event adds to the count", verdict))
+}
+
 /// The wrong counts, and the wrong tables of quiet steps, that would show in this explanation.
 fn wrong_count_names(part: &Part, reaches: &[Vec<bool>], explanation: &Explanation) -> Vec<String> {
     let found = break_of(explanation);
@@ -253,7 +265,7 @@ fn wrong_count_names(part: &Part, reaches: &[Vec<bool>], explanation: &Explanati
 }
 
 /// The first break again, from the numbers that tell it.
-fn break_of(explanation: &Explanation) -> Option<Break> {
+pub fn break_of(explanation: &Explanation) -> Option<Break> {
     if explanation.rule == 0 {
         return None;
     }

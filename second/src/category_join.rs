@@ -1,8 +1,10 @@
 //! Categories of joins, by the checker's own answer.
 
+use crate::category_internal::{add_to_a_reach, has_step, low_internal_events};
 use crate::check::{self, Verdict};
 use crate::join::{self, JoinAnswer, Side};
 use crate::record::{self, incomparable, Kind, Part, ORDER};
+use crate::wrong_internal::as_outputs;
 
 /// Is this a category that must come up most often?
 pub fn is_main(name: &str) -> bool {
@@ -91,7 +93,33 @@ pub fn names() -> Vec<String> {
     ] {
         names.push(name.to_string());
     }
+    for name in INTERNAL {
+        names.push(format!("joined, {}", name));
+    }
     names
+}
+
+/// Categories of joined parts by the events that are quiet in them.
+pub const INTERNAL: [&str; 3] = [
+    "a shared low event adds to a quiet reach",
+    "a shared low event has a step, passes with internal events made outputs too",
+    "breaks with internal events made outputs",
+];
+
+/// The shared low events that have a step in the joined part, by their numbers there.
+pub fn shared_low_events(a: &Part, b: &Part, joined: &Part) -> Vec<usize> {
+    let merged = join::merged_entries(a, b);
+    let is_shared = |e: usize| merged[e].from_a.is_some() && merged[e].from_b.is_some();
+    (0..merged.len()).filter(|&e| is_shared(e) && joined.is_low(e) && has_step(joined, e)).collect()
+}
+
+/// The categories of a joined part by the events that are quiet in it.
+pub fn internal_names(a: &Part, b: &Part, joined: &Part) -> Vec<&'static str> {
+    let shared = shared_low_events(a, b, joined);
+    let adds = !shared.is_empty() && add_to_a_reach(joined, &check::quiet_reaches(joined), &shared);
+    let passes = low_internal_events(joined).is_empty() || check::passes(&as_outputs(joined));
+    let applies = [adds, !shared.is_empty() && passes, !passes];
+    (0..INTERNAL.len()).filter(|&i| applies[i]).map(|i| INTERNAL[i]).collect()
 }
 
 /// How many shared events clash, by kind or by level.
@@ -259,6 +287,10 @@ pub fn of_join(a: &[u8], b: &[u8], room: usize, answer: JoinAnswer) -> Vec<Strin
             }
         }
         JoinAnswer::Stopped(_, _) => unreachable!(),
+    }
+    if let JoinAnswer::Length(_) = answer {
+        let joined = record::read(&join::joined_record(&part_a, &part_b)).unwrap();
+        names.extend(internal_names(&part_a, &part_b, &joined).iter().map(|name| format!("joined, {}", name)));
     }
     names
 }

@@ -2,12 +2,13 @@
 
 use crate::answer::Answer;
 use crate::category;
-use crate::category_join::clashes;
+use crate::category_join::{self, clashes};
 use crate::check::{self, Verdict};
 use crate::examples;
 use crate::join;
 use crate::record::{self, Part};
 use crate::replay::{self, Done, Effect, Ending, Operation, Replay};
+use crate::wrong_internal::as_outputs;
 
 /// Is this a category that must come up most often?
 pub fn is_main(name: &str) -> bool {
@@ -83,8 +84,12 @@ pub fn names() -> Vec<String> {
         "truncated part",
         "unknown operation",
         "list of calls as on the plain bench",
+        "hookup of a part that breaks with internal events made outputs",
     ] {
         names.push(name.to_string());
+    }
+    for name in category_join::INTERNAL {
+        names.push(format!("hookup, {}", name));
     }
     names
 }
@@ -167,6 +172,17 @@ fn small_shelf_name(run: &Replay) -> Option<String> {
     }
 }
 
+/// Check's verdict on a record, by the answer of its load; none where the shelf was refused before it.
+pub fn verdict_of_load(answer: Answer) -> Option<Verdict> {
+    match answer {
+        Answer::Refused(12) => None,
+        Answer::Refused(15) | Answer::Part(_) => Some(Verdict::Pass),
+        Answer::Refused(number) => Some(Verdict::Refused(number)),
+        Answer::Breaks(found) => Some(Verdict::Breaks(found)),
+        Answer::Cleared | Answer::Clash(_) => unreachable!(),
+    }
+}
+
 /// The categories of one operation; `held` follows the records on the shelf.
 fn operation_names(capacity: usize, held: &mut Vec<Held>, done: &Done) -> Vec<String> {
     let mut names: Vec<String> = Vec::new();
@@ -189,7 +205,7 @@ fn operation_names(capacity: usize, held: &mut Vec<Held>, done: &Done) -> Vec<St
         }
         (Operation::Clear, _) => names.push("clear refused 12".to_string()),
         (Operation::Load(record), Effect::Answer(answer)) => {
-            let verdict = check::check(record);
+            let verdict = verdict_of_load(*answer).unwrap_or_else(|| check::check(record));
             if *answer == Answer::Refused(12) {
                 names.push("load refused 12".to_string());
                 if verdict != Verdict::Pass {
@@ -224,7 +240,7 @@ fn operation_names(capacity: usize, held: &mut Vec<Held>, done: &Done) -> Vec<St
                 Answer::Breaks(_) if no_room => names.push("load breaks, no room either".to_string()),
                 _ => {}
             }
-            for name in category::of_record(record) {
+            for name in category::of_verdict(record, verdict) {
                 names.push(format!("load, {}", name));
             }
         }
@@ -328,11 +344,18 @@ fn hookup_names(held: &mut Vec<Held>, i: usize, j: usize, answer: Answer, room: 
             if held[i].joined && held[j].joined {
                 add("hookup of two joined parts");
             }
+            if !check::passes(&as_outputs(a)) || !check::passes(&as_outputs(b)) {
+                add("hookup of a part that breaks with internal events made outputs");
+            }
             let bytes = join::joined_record(a, b);
             if room == bytes.len() {
                 add("hookup, just enough room");
             }
-            held.push(Held { part: record::read(&bytes).unwrap(), joined: true });
+            let part = record::read(&bytes).unwrap();
+            for name in category_join::internal_names(a, b, &part) {
+                add(&format!("hookup, {}", name));
+            }
+            held.push(Held { part, joined: true });
         }
         _ => unreachable!(),
     }

@@ -1,4 +1,5 @@
-//! The examples of document 01, "Examples", as bytes, and P with a level that request d refuses.
+//! The examples of document 01, "Examples", as bytes; P with a level that request d refuses, and P and T with internal
+//! events for request i.
 
 use crate::record::{self, Event, Kind, Part};
 
@@ -40,6 +41,11 @@ pub fn p_with_event_2_internal() -> Vec<u8> {
     p_with(&[(18, 2)])
 }
 
+/// The same with event 2 stepless in state 1: nobody sees that it is missing.
+pub fn p_mute_with_event_2_internal() -> Vec<u8> {
+    p_with(&[(18, 2), (44, 0)])
+}
+
 /// P with 0x01 as the level of event 2, for request d.
 pub fn p_mislabelled() -> Vec<u8> {
     p_with(&[(19, 0x01)])
@@ -54,6 +60,11 @@ fn t(kind: Kind, level: u8) -> Part {
 
 pub fn t_high_output() -> Vec<u8> {
     record::write(&t(Kind::Output, 0x40))
+}
+
+/// T with event 1 internal and of the observer's own level.
+pub fn t_low_internal() -> Vec<u8> {
+    record::write(&t(Kind::Internal, 0))
 }
 
 pub fn t_low_input() -> Vec<u8> {

@@ -1,5 +1,5 @@
 //! The explanation: Check's answer in eight numbers, and among them how many states were taken up.
-//! Document 02, request f, and the C header, `hookup_explain`.
+//! Document 02, requests f and i, and the C header, `hookup_explain`.
 
 use crate::check::{self, quiet_reaches, Break, Verdict};
 use crate::record::{self, OBSERVER_AT};
@@ -147,12 +147,13 @@ mod tests {
         check_and_count(bytes).1
     }
 
-    /// P, Q and Z have no quiet event, so each state is taken up once. In T with a high output the quiet reaches are
-    /// 0 and 2, 1, 2.
+    /// P, Q and Z have no quiet event, or one that stays, so each state is taken up once. In T with a high output or a low
+    /// internal event the quiet reaches are 0 and 2, 1, 2.
     #[test]
     fn counts_of_the_examples() {
         assert_eq!(count(&examples::p()), 2);
         assert_eq!(count(&examples::p_with_event_2_internal()), 2);
+        assert_eq!(count(&examples::p_mute_with_event_2_internal()), 2);
         assert_eq!(count(&examples::q()), 1);
         assert_eq!(count(&examples::z()), 1);
         assert_eq!(count(&examples::without_events(64)), 64);
@@ -162,6 +163,7 @@ mod tests {
         assert_eq!(count(&examples::t_low_input()), 0);
         // Rules 4 and 5.
         assert_eq!(count(&examples::t_high_output()), 4);
+        assert_eq!(count(&examples::t_low_internal()), 4);
         assert_eq!(count(&examples::p_event_2_stepless_in_1()), 2);
         // Refusals.
         assert_eq!(count(&[]), 0);
@@ -251,6 +253,8 @@ mod tests {
         assert_eq!(explained(&examples::p_with_classes_0_1()), [2, 1, 0, 1, 0, 0, 0, 0]);
         assert_eq!(explained(&examples::t_low_input()), [3, 1, 0, 2, 1, 0, 0, 0]);
         assert_eq!(explained(&examples::t_high_output()), [4, 1, 0, 2, 1, 4, 0, 0]);
+        assert_eq!(explained(&examples::t_low_internal()), [4, 1, 0, 2, 1, 4, 0, 0]);
+        assert_eq!(explained(&examples::p_mute_with_event_2_internal()), [0, 0, 0, 0, 0, 2, 0, 1]);
         assert_eq!(explained(&examples::p_event_2_stepless_in_1()), [5, 2, 0, 0, 1, 2, 0, 0]);
     }
 

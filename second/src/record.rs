@@ -1,5 +1,5 @@
 //! The part record: its bytes, its fields, refusals 1 to 7, 16 and 8.
-//! Document 01, "Levels", "The part record", "Refusals out of the input"; document 02, request d.
+//! Document 01, "Levels", "The part record", "Refusals out of the input"; document 02, requests d and i.
 
 /// The kind of an event.
 #[derive(Clone, Copy, PartialEq, Eq, Debug)]
@@ -65,7 +65,7 @@ impl Part {
         largest as usize + 1
     }
 
-    /// "Levels": may the observer see the event?
+    /// "Levels": is the event's level at or below the observer's?
     pub fn is_low(&self, e: usize) -> bool {
         at_or_below(self.events[e].level, self.observer)
     }
@@ -79,9 +79,21 @@ impl Part {
         self.events[e].kind == Kind::Input
     }
 
-    /// Outputs and internal events are treated alike by the rules.
-    pub fn is_output_or_internal(&self, e: usize) -> bool {
-        self.events[e].kind == Kind::Output || self.events[e].kind == Kind::Internal
+    pub fn is_output(&self, e: usize) -> bool {
+        self.events[e].kind == Kind::Output
+    }
+
+    pub fn is_internal(&self, e: usize) -> bool {
+        self.events[e].kind == Kind::Internal
+    }
+
+    pub fn is_low_output(&self, e: usize) -> bool {
+        self.is_output(e) && self.is_low(e)
+    }
+
+    /// Request i: the steps of high outputs are quiet, and those of internal events whatever their level.
+    pub fn is_quiet(&self, e: usize) -> bool {
+        self.is_internal(e) || (self.is_output(e) && self.is_high(e))
     }
 
     pub fn same_class(&self, s: usize, t: usize) -> bool {

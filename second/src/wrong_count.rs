@@ -1,15 +1,16 @@
 //! Wrong readings of how many states were taken up, to count the inputs on which they would show. Nothing here decides
 //! an answer.
 
-use crate::check::{quiet_steps, reach, Break};
+use crate::check::{first_break, quiet_reaches, quiet_steps, reach, Break};
 use crate::closure::least_steps;
 use crate::explain::sum_of_sizes;
 use crate::record::Part;
+use crate::wrong_internal::as_outputs;
 
 /// A count for a part with these quiet reaches and this first break.
 pub type Count = fn(&Part, &[Vec<bool>], Option<Break>) -> u64;
 
-pub const COUNTS: [(&str, Count); 20] = [
+pub const COUNTS: [(&str, Count); 21] = [
     ("classes in the place of states", |part, reaches, found| when_reported(found, classes_reached(part, reaches))),
     ("without the state itself", |part, reaches, found| when_reported(found, sum_of_sizes(reaches) - size(part))),
     ("the start state's reach alone", |part, reaches, found| when_reported(found, sum_of_one(reaches, part.start))),
@@ -44,6 +45,7 @@ pub const COUNTS: [(&str, Count); 20] = [
         classes if classes == part.state_count() => 0,
         _ => when_reported(found, sum_of_sizes(reaches)),
     }),
+    ("internal events like outputs", |part, _, _| of_document_01(part)),
 ];
 
 /// A sum where one of these rules is broken first, 0 standing for a pass; otherwise zero.
@@ -118,6 +120,12 @@ fn of_single_steps(part: &Part, with_the_state: bool) -> u64 {
     sum_of_sizes(&table)
 }
 
+/// Document 01's reading of internal events, for the verdict and for the quiet reaches.
+fn of_document_01(part: &Part) -> u64 {
+    let changed = as_outputs(part);
+    when_reported(first_break(&changed), sum_of_sizes(&quiet_reaches(&changed)))
+}
+
 /// The numbers of steps are added up.
 fn sum_of_distances(part: &Part) -> u64 {
     let table = quiet_steps(part);
@@ -133,7 +141,6 @@ fn sum_of_distances(part: &Part) -> u64 {
 #[cfg(test)]
 mod tests {
     use super::*;
-    use crate::check::{first_break, quiet_reaches};
     use crate::examples;
     use crate::record;
 
@@ -146,15 +153,18 @@ mod tests {
     #[test]
     fn wrong_counts_by_hand() {
         let mut part = record::read(&examples::t_high_output()).unwrap();
-        assert_eq!(counts(&part), [4, 1, 2, 1, 3, 3, 9, 3, 3, 4, 1, 1, 4, 4, 4, 0, 4, 4, 4, 4]);
+        assert_eq!(counts(&part), [4, 1, 2, 1, 3, 3, 9, 3, 3, 4, 1, 1, 4, 4, 4, 0, 4, 4, 4, 4, 4]);
         // With a class for each state it passes.
         part.classes = vec![0, 1, 2];
-        assert_eq!(counts(&part), [4, 1, 2, 4, 4, 3, 9, 4, 3, 4, 1, 1, 4, 4, 4, 4, 4, 0, 4, 0]);
+        assert_eq!(counts(&part), [4, 1, 2, 4, 4, 3, 9, 4, 3, 4, 1, 1, 4, 4, 4, 4, 4, 0, 4, 0, 4]);
         // In one class it passes too.
         part.classes = vec![0, 0, 0];
         assert_eq!(counts(&part)[0], 3);
         assert_eq!(counts(&part)[7], 2);
         let rule_3 = record::read(&examples::t_low_input()).unwrap();
-        assert_eq!(counts(&rule_3), [0, 0, 0, 0, 0, 0, 0, 0, 0, 0, 0, 0, 0, 0, 3, 0, 0, 0, 0, 0]);
+        assert_eq!(counts(&rule_3), [0, 0, 0, 0, 0, 0, 0, 0, 0, 0, 0, 0, 0, 0, 3, 0, 0, 0, 0, 0, 0]);
+        // A low internal event in the place of T's high output: to document 01 it is not quiet.
+        let internal = record::read(&examples::t_low_internal()).unwrap();
+        assert_eq!(counts(&internal)[5..], [3, 9, 3, 3, 4, 1, 1, 4, 4, 4, 0, 4, 4, 4, 4, 3]);
     }
 }

@@ -196,6 +196,11 @@ module _ {A : Type 0} (f : ℕ → Option A) where
       (λ l. rw (first-at n a (record { at = w .at; below = l; found = w .found; before = w .before })))
       (last-or-below (w .below))
 
+pub first-same : {A : Type 0} (n : ℕ) (f g : ℕ → Option A) → ((i : ℕ) → i < n → f i ≡ g i) → first n f ≡ first n g
+unfolding first
+first-same zero f g h = refl
+first-same (suc n) f g h = rw (first-same n f g (λ i l. h i (le-step l)), h n (lt-suc-self n)) refl
+
 -- ---- the least number that passes a test
 
 -- t is below n and passes, and no number before it does.

@@ -1,18 +1,20 @@
 -- A hookup of restrictive machines is restrictive. At every event one component leads: it has the composite's event and
--- the other lacks it, or the event is its output and the other's input. The leader answers by its own rule; the other
--- moves along, in its class at a high event and as it would have moved at a low one. Silent steps of one component are
--- silent steps of the composite.
+-- the other lacks it and stays, or the event is its output and the other's input, and silent in the composite. The
+-- leader answers by its own rule; the other moves along, in its class at a high event and by rule 3 at a low one.
+-- Silent steps of one component are silent steps of the composite.
 use Prim.Native.Nat.{ℕ}
 use mathlib.Core.Path.{_≡_, refl, sym, _∙_, subst}
 use mathlib.Core.Bool.{Bool, true, false}
-use mathlib.Core.Logic.{_⊎_, inl, inr}
+use mathlib.Core.Logic.{_⊎_, inl, inr, ⊎-elim}
 use lib.Dec.{T}
-use Rattle.machine.specs.Machine.{input, output, internal, Event, Machine, Observation}
+use Rattle.machine.specs.Machine.{input, output, Event, Machine, Observation}
 use Rattle.machine.specs.Roles.{
   Role,
   missing,
-  low,
-  high,
+  low-input,
+  high-input,
+  low-output,
+  silent,
   at-level,
   role-of,
   role,
@@ -20,7 +22,7 @@ use Rattle.machine.specs.Roles.{
   is-low-input,
   is-high-input,
   is-silent,
-  is-low-action,
+  is-low-output,
 }
 use Rattle.machine.specs.Silent.{Silent, still, then}
 use Rattle.machine.specs.Rules.{Rule, rule-1, rule-2, rule-3, rule-4, rule-5, Asks, Answers, Restrictive}
@@ -38,7 +40,7 @@ use Rattle.machine.specs.Hookup.{
   IsProduct,
   HookupRestrictive,
 }
-use Rattle.machine.proofs.Silent.{around-alone, around-wider}
+use Rattle.machine.proofs.Silent.{around-alone, around-wider, around-silent}
 use Rattle.machine.proofs.Traces.{role-high-input, test-as, missing-absent, not-missing}
 
 -- ---- left and right
@@ -80,10 +82,10 @@ module _ {SA SB SN : Type 0} {pair : SA → SB → SN} where
 
 data Led : Role → Role → Role → Type 0 where
   alone : {r : Role} → Led r missing r
-  low-shared : Led (low output) (low input) (low internal)
-  high-shared : Led (high output) (high input) (high internal)
+  low-shared : Led low-output low-input silent
+  high-shared : Led silent high-input silent
 
-shared : (k : Bool) → Led (at-level output k) (at-level input k) (at-level internal k)
+shared : (k : Bool) → Led (at-level output k) (at-level input k) silent
 unfolding at-level
 shared true = low-shared
 shared false = high-shared
@@ -94,25 +96,31 @@ Either-led p q r = Led p q r ⊎ Led q p r
 
 combines-led : (is-low : ℕ → Bool) {x y z : Event} → Combines x y z
     → Either-led (role-of is-low x) (role-of is-low y) (role-of is-low z)
-unfolding role-of
+unfolding role-of at-level
 combines-led is-low neither = inl alone
 combines-led is-low left-only = inl alone
 combines-led is-low right-only = inr alone
-combines-led is-low (left-sends {l}) = inl (shared _)
-combines-led is-low (right-sends {l}) = inr (shared _)
+combines-led is-low (left-sends {l}) = inl (shared (is-low l))
+combines-led is-low (right-sends {l}) = inr (shared (is-low l))
 
 -- The event is missing, or its role passes the test.
 abbrev Lacks-or : (Role → Bool) → Role → Type 0
 Lacks-or f r = (r ≡ missing) ⊎ T (f r)
 
--- Where the composite's role passes a test f, so does the leader's, and the other component lacks the event or passes a
--- test g, provided that this holds of shared events.
-leads : (f g : Role → Bool) → (T (f (low internal)) → T (f (low output)) × T (g (low input)))
-    → (T (f (high internal)) → T (f (high output)) × T (g (high input))) → {p q r : Role} → Led p q r → T (f r)
-    → T (f p) × Lacks-or g q
-leads f g n m alone h = (h, inl refl)
-leads f g n m low-shared h = (n h .0, inr (n h .1))
-leads f g n m high-shared h = (m h .0, inr (m h .1))
+-- Where the composite's role passes a test that no silent event passes, so does the leader's, and the other component
+-- lacks the event.
+leads-alone : (f : Role → Bool) → (T (f silent) → ⊥) → {p q r : Role} → Led p q r → T (f r) → T (f p) × (q ≡ missing)
+leads-alone f n alone h = (h, refl)
+leads-alone f n low-shared h = absurd (n h)
+leads-alone f n high-shared h = absurd (n h)
+
+-- A silent event of the composite is silent in the leader, and the other lacks it or has it as a high input; or it is a
+-- low output of the leader, and a low input of the other.
+leads-silent : {p q r : Role} → Led p q r → T (is-silent r)
+    → (T (is-silent p) × Lacks-or is-high-input q) ⊎ (T (is-low-output p) × Lacks-or is-low-input q)
+leads-silent alone h = inl (h, inl refl)
+leads-silent low-shared h = inr (tt, inr tt)
+leads-silent high-shared h = inl (tt, inr tt)
 
 -- A silent event of either component is silent in the composite, and the other lacks it or has it as a high input.
 silent-led : {p q r : Role} → Either-led p q r → T (is-silent p) → T (is-silent r) × Lacks-or is-high-input q
@@ -174,47 +182,66 @@ module _ {SA SB SN : Type 0} {A : Machine SA} {B : Machine SB} {N : Machine SN} 
       let x = lift rest (w .0) in
       (x .0, then e (i .0) (led-step p (w .1)) (x .1), x .2 ∙ w .2)
 
+  -- Where N steps from (a, b) to (a', b').
+  module _ (e : ℕ) {a a' : SA} {b b' : SB} (p : N .step e (pair a b) (pair a' b')) where
+    abbrev follows : Move B e b b'
+    follows = H .moves e a a' b b' .0 p .2
+
+    led-by : (f : Role → Bool) → (T (f missing) → ⊥) → T (f (role A OA e)) → A .step e a a'
+    led-by f n h = moved A OA e f n h (H .moves e a a' b b' .0 p .1)
+
+    together : {v : SA} {w : SB} → OA .class v ≡ OA .class a' → OB .class w ≡ OB .class b'
+        → ON .class (pair v w) ≡ ON .class (pair a' b')
+    together {v} {w} x y = P .classes v a' w b' .1 (x, y)
+
+    -- And (c, d) has the class of (a, b).
+    module _ {c : SA} {d : SB} (q : ON .class (pair c d) ≡ ON .class (pair a b)) where
+      abbrev alike : (OA .class c ≡ OA .class a) × (OB .class d ≡ OB .class b)
+      alike = P .classes c a d b .0 q
+
+      -- A silent event of A: A answers by rule 4, and B keeps its class.
+      silently : T (is-silent (role A OA e)) → Lacks-or is-high-input (role B OB e)
+          → Answers N ON rule-4 e (pair a b) (pair a' b') (pair c d)
+      silently h i =
+          let w = RA rule-4 e a a' c (h, led-by is-silent (λ z. z) h, alike .0) in
+          let x = lift (w .1) d in
+          (pair (w .0) (x .0), x .1, together (w .2) (x .2 ∙ alike .1 ∙ sym (high-keeps B OB RB e i follows)))
+
+      -- A low output of A: A answers by rule 5, and B follows by rule 3.
+      around : T (is-low-output (role A OA e)) → Lacks-or is-low-input (role B OB e)
+          → Answers N ON rule-5 e (pair a b) (pair a' b') (pair c d)
+      around h i =
+          let w = RA rule-5 e a a' c (h, led-by is-low-output (λ z. z) h, alike .0) in
+          let x = lift (w .1 .before) d in
+          let y = low-move B OB RB e i follows (x .0) (x .2 ∙ alike .1) in
+          let z = lift (w .1 .after) (y .0) in
+          let path = around-wider N ON (x .1) (around-alone N ON e (led-step (w .1 .step) (y .1))) (z .1) in
+          (pair (w .0) (z .0), path, together (w .2) (z .2 ∙ y .2))
+
   -- The rules hold of pairs at an event that A leads.
   led : (e : ℕ) → Led (role A OA e) (role B OB e) (role N ON e) → (r : Rule) (a a' c : SA) (b b' d : SB)
       → Asks N ON r e (pair a b) (pair a' b') (pair c d) → Answers N ON r e (pair a b) (pair a' b') (pair c d)
   led e l rule-1 a a' c b b' d h =
-      let i = leads is-input is-high-input (λ z. absurd z) (λ z. absurd z) l h in
+      let i = leads-alone is-input (λ z. z) l h in
       let w = RA rule-1 e a a a (i .0) in
-      let x = high-move B OB RB e (i .1) b in
-      (pair (w .0) (x .0), led-step (w .1) (x .1))
-  led e l rule-2 a a' c b b' d h =
-      let i = leads is-high-input is-high-input (λ z. absurd z) (λ z. absurd z) l (h .0) in
-      let m = H .moves e a a' b b' .0 (h .1) in
-      let w = RA rule-2 e a a' a (i .0, moved A OA e is-high-input (λ z. z) (i .0) (m .1)) in
-      P .classes a' a b' b .1 (w, high-keeps B OB RB e (i .1) (m .2))
-  led e l rule-3 a a' c b b' d h =
-      let i = leads is-low-input is-low-input (λ z. absurd z) (λ z. absurd z) l (h .0) in
-      let m = H .moves e a a' b b' .0 (h .1) in
-      let q = P .classes c a d b .0 (h .2) in
-      let w = RA rule-3 e a a' c (i .0, moved A OA e is-low-input (λ z. z) (i .0) (m .1), q .0) in
-      let x = low-move B OB RB e (i .1) (m .2) d (q .1) in
-      (pair (w .0) (x .0), led-step (w .1) (x .1), P .classes (w .0) a' (x .0) b' .1 (w .2, x .2))
-  led e l rule-4 a a' c b b' d h =
-      let i = leads is-silent is-high-input (λ z. absurd z) (λ z. (tt, tt)) l (h .0) in
-      let m = H .moves e a a' b b' .0 (h .1) in
-      let q = P .classes c a d b .0 (h .2) in
-      let w = RA rule-4 e a a' c (i .0, moved A OA e is-silent (λ z. z) (i .0) (m .1), q .0) in
-      let x = lift (w .1) d in (
-        pair (w .0) (x .0),
-        x .1,
-        P .classes (w .0) a' (x .0) b' .1
-            (w .2, x .2 ∙ q .1 ∙ sym (high-keeps B OB RB e (i .1) (m .2))),
-      )
-  led e l rule-5 a a' c b b' d h =
-      let i = leads is-low-action is-low-input (λ z. (tt, tt)) (λ z. absurd z) l (h .0) in
-      let m = H .moves e a a' b b' .0 (h .1) in
-      let q = P .classes c a d b .0 (h .2) in
-      let w = RA rule-5 e a a' c (i .0, moved A OA e is-low-action (λ z. z) (i .0) (m .1), q .0) in
-      let x = lift (w .1 .before) d in
-      let y = low-move B OB RB e (i .1) (m .2) (x .0) (x .2 ∙ q .1) in
-      let z = lift (w .1 .after) (y .0) in
-      let around = around-wider N ON (x .1) (around-alone N ON e (led-step (w .1 .step) (y .1))) (z .1) in
-      (pair (w .0) (z .0), around, P .classes (w .0) a' (z .0) b' .1 (w .2, z .2 ∙ y .2))
+      (pair (w .0) b, led-step (w .1) (stays (missing-absent _ (B .events e) (i .1))))
+  led e l rule-2 a a' c b b' d (h, p) =
+      let i = leads-alone is-high-input (λ z. z) l h in
+      let w = RA rule-2 e a a' a (i .0, led-by e p is-high-input (λ z. z) (i .0)) in
+      P .classes a' a b' b .1 (w, high-keeps B OB RB e (inl (i .1)) (follows e p))
+  led e l rule-3 a a' c b b' d (h, p, q) =
+      let i = leads-alone is-low-input (λ z. z) l h in
+      let w = RA rule-3 e a a' c (i .0, led-by e p is-low-input (λ z. z) (i .0), alike e p q .0) in
+      let x = low-move B OB RB e (inl (i .1)) (follows e p) d (alike e p q .1) in
+      (pair (w .0) (x .0), led-step (w .1) (x .1), together e p (w .2) (x .2))
+  led e l rule-4 a a' c b b' d (h, p, q) =
+      ⊎-elim
+      (λ i. silently e p q (i .0) (i .1))
+      (λ i. let w = around e p q (i .0) (i .1) in (w .0, around-silent N ON h (w .1), w .2))
+      (leads-silent l h)
+  led e l rule-5 a a' c b b' d (h, p, q) =
+      let i = leads-alone is-low-output (λ z. z) l h in
+      around e p q (i .0) (inl (i .1))
 
 pub hookup-restrictive : HookupRestrictive
 hookup-restrictive SA SB SN A B N OA OB ON pair H P RA RB r e s t u =

@@ -1,21 +1,21 @@
 -- Restrictive machines are noninterfering: a trace is followed, event by event, from a state of the same class. A high
--- input of the trace is left out, a silent event is answered by silent steps, a low one by itself with silent steps
--- around it; after each low event the high inputs that are given for the gap are run.
+-- input of the trace is left out, a silent event is answered by silent steps, a low input or low output by itself with
+-- silent steps around it; after each low event the high inputs that are given for the gap are run.
 use Prim.Native.Nat.{ℕ}
 use mathlib.Core.Path.{_≡_, refl, sym, _∙_}
 use mathlib.Core.List.{List, [], _∷_}
 use native.Mathlib.Omega.{arith}
 use lib.ListN.{length}
 use lib.Dec.{T}
-use Rattle.machine.specs.Machine.{Kind, input, output, internal, Machine, Observation}
-use Rattle.machine.specs.Roles.{Role, missing, low, high, role, is-input, is-low-input, is-high-input, is-silent}
-use Rattle.machine.specs.Roles.{is-low-action}
+use Rattle.machine.specs.Machine.{Machine, Observation}
+use Rattle.machine.specs.Roles.{Role, missing, low-input, high-input, low-output, silent, role, is-input}
+use Rattle.machine.specs.Roles.{is-low-input, is-high-input, is-silent, is-low-output, is-seen}
 use Rattle.machine.specs.Rules.{rule-1, rule-2, rule-3, rule-4, rule-5, Around, Restrictive}
 use Rattle.machine.specs.Traces.{Can, low-first, lows}
 use Rattle.machine.specs.Noninterference.{HighInputs, AllHighInputs, RestrictiveHides}
 use Rattle.machine.proofs.Silent.{around-alone}
-use Rattle.machine.proofs.Traces.{role-high-input, test-as, not-missing, Shows, shows-nothing, shows-high-input}
-use Rattle.machine.proofs.Traces.{shows-silent, shows-around}
+use Rattle.machine.proofs.Traces.{role-high-input, test-as, not-missing, Shows, shows-nothing}
+use Rattle.machine.proofs.Traces.{shows-high-input, shows-silent, shows-around}
 
 module _ {S : Type 0} (M : Machine S) (O : Observation S) (R : Restrictive M O) where
   -- The high inputs of a list can be run first, since they keep the class.
@@ -27,13 +27,9 @@ module _ {S : Type 0} (M : Machine S) (O : Observation S) (R : Restrictive M O) 
       let w = R rule-1 e u u u (test-as is-input (role-high-input (role M O e) (h .0)) tt) in
       shows-high-input M O (h .0) (w .1) (feed g (h .1) c _ _ rest (w .0) (R rule-2 e u (w .0) u (h .0, w .1) ∙ q))
 
-  -- A low event is answered by itself, with silent steps around it.
-  low-answer : (k : Kind) (e : ℕ) (s t u : S) → role M O e ≡ low k → M .step e s t → O .class u ≡ O .class s
-      → (v : S) × Around M O e u v × (O .class v ≡ O .class t)
-  low-answer input e s t u r p q = let w = R rule-3 e s t u (test-as is-low-input r tt, p, q) in
-      (w .0, around-alone M O e (w .1), w .2)
-  low-answer output e s t u r p q = R rule-5 e s t u (test-as is-low-action r tt, p, q)
-  low-answer internal e s t u r p q = R rule-5 e s t u (test-as is-low-action r tt, p, q)
+  -- Every state of the class of s answers e with e itself and silent steps around it, which lead into the class of t.
+  abbrev AnsweredAround : ℕ → S → S → Type 0
+  AnsweredAround e s t = (u : S) → O .class u ≡ O .class s → (v : S) × Around M O e u v × (O .class v ≡ O .class t)
 
   -- Every state of the class of s can show these low events, with no high input before the first and any given ones
   -- after each.
@@ -43,13 +39,13 @@ module _ {S : Type 0} (M : Machine S) (O : Observation S) (R : Restrictive M O) 
       → Shows M O u ls ([] ∷ gs)
 
   -- So it is with one step more in front: by a low event, a high input, a silent event.
-  low-before : (k : Kind) (e : ℕ) (s t : S) (ls : List ℕ) → role M O e ≡ low k → M .step e s t → Answered t ls
+  low-before : (e : ℕ) (s t : S) (ls : List ℕ) → T (is-seen (role M O e)) → AnsweredAround e s t → Answered t ls
       → Answered s (e ∷ ls)
-  low-before k e s t ls r p rest [] hs n u q = absurd (omega arith)
-  low-before k e s t ls r p rest (g ∷ gs) hs n u q =
-      let w = low-answer k e s t u r p q in
+  low-before e s t ls l answer rest [] hs n u q = absurd (omega arith)
+  low-before e s t ls l answer rest (g ∷ gs) hs n u q =
+      let w = answer u q in
       let m : length gs ≡ length ls = omega arith in
-      shows-around M O k r (w .1) (feed g (hs .0) _ _ _ (rest gs (hs .1) m) (w .0) (w .2))
+      shows-around M O l (w .1) (feed g (hs .0) _ _ _ (rest gs (hs .1) m) (w .0) (w .2))
 
   high-input-before : (e : ℕ) (s t : S) (ls : List ℕ) → T (is-high-input (role M O e)) → M .step e s t → Answered t ls
       → Answered s ls
@@ -64,10 +60,14 @@ module _ {S : Type 0} (M : Machine S) (O : Observation S) (R : Restrictive M O) 
       → Answered s (low-first r e ls)
   unfolding low-first
   step-before missing e s t ls r p = absurd (not-missing M O p r)
-  step-before (low k) e s t ls r p = low-before k e s t _ r p
-  step-before (high input) e s t ls r p = high-input-before e s t _ (test-as is-high-input r tt) p
-  step-before (high output) e s t ls r p = silent-before e s t _ (test-as is-silent r tt) p
-  step-before (high internal) e s t ls r p = silent-before e s t _ (test-as is-silent r tt) p
+  step-before low-input e s t ls r p =
+      low-before e s t _ (test-as is-seen r tt) (λ u q.
+      let w = R rule-3 e s t u (test-as is-low-input r tt, p, q) in
+      (w .0, around-alone M O e (w .1), w .2))
+  step-before high-input e s t ls r p = high-input-before e s t _ (test-as is-high-input r tt) p
+  step-before low-output e s t ls r p =
+      low-before e s t _ (test-as is-seen r tt) (λ u q. R rule-5 e s t u (test-as is-low-output r tt, p, q))
+  step-before silent e s t ls r p = silent-before e s t _ (test-as is-silent r tt) p
 
   answered : (l : List ℕ) (s : S) → Can M s l → Answered s (lows M O l)
   unfolding lows

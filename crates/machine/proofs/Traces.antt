@@ -6,19 +6,20 @@ use mathlib.Core.Bool.{Bool, true, false}
 use mathlib.Core.List.{List, [], _∷_}
 use lib.Dec.{T}
 use Rattle.machine.specs.Machine.{Kind, input, output, internal, Event, absent, event, Machine, Observation}
-use Rattle.machine.specs.Roles.{Role, missing, low, high, at-level, role-of, role, is-high-input, is-silent}
+use Rattle.machine.specs.Roles.{Role, missing, low-input, high-input, low-output, silent, at-level, role-of}
+use Rattle.machine.specs.Roles.{role, is-high-input, is-silent, is-seen}
 use Rattle.machine.specs.Silent.{Silent, still, then}
 use Rattle.machine.specs.Rules.{Around}
 use Rattle.machine.specs.Traces.{Can, push, low-first, gap-first, lows, gaps}
 
 -- ---- roles
 
-pub role-high-input : (r : Role) → T (is-high-input r) → r ≡ high input
+pub role-high-input : (r : Role) → T (is-high-input r) → r ≡ high-input
 role-high-input missing h = absurd h
-role-high-input (low k) h = absurd h
-role-high-input (high input) h = refl
-role-high-input (high output) h = absurd h
-role-high-input (high internal) h = absurd h
+role-high-input low-input h = absurd h
+role-high-input high-input h = refl
+role-high-input low-output h = absurd h
+role-high-input silent h = absurd h
 
 -- A test of a role, passed by a role equal to it.
 pub test-as : (f : Role → Bool) {r x : Role} → r ≡ x → T (f x) → T (f r)
@@ -27,11 +28,14 @@ test-as f q h = subst (λ (y : Role). T (f y)) (sym q) h
 pub missing-absent : (is-low : ℕ → Bool) (x : Event) → role-of is-low x ≡ missing → x ≡ absent
 unfolding role-of at-level
 missing-absent is-low absent q = refl
-missing-absent is-low (event k l) q = go (is-low l) q
+missing-absent is-low (event k l) q = go k (is-low l) q
   where
-    go : (b : Bool) → at-level k b ≡ missing → event k l ≡ absent
-    go true q = cc
-    go false q = cc
+    go : (k : Kind) (b : Bool) → at-level k b ≡ missing → event k l ≡ absent
+    go input true q = cc
+    go input false q = cc
+    go output true q = cc
+    go output false q = cc
+    go internal b q = cc
 
 module _ {S : Type 0} (M : Machine S) (O : Observation S) where
   -- An event that leads somewhere is not missing.
@@ -69,29 +73,34 @@ module _ {S : Type 0} (M : Machine S) (O : Observation S) where
   unfolding low-first gap-first push
   shows-high-input {e} h p w = rw (role-high-input (role M O e) h) at (shows-step p w)
 
-  pub shows-low : {e : ℕ} {s t : S} {ls : List ℕ} {gs : List (List ℕ)} (k : Kind) → role M O e ≡ low k → M .step e s t
-      → Shows t ls gs
+  -- Low events in front are kept, silent ones are passed over.
+  kept : (r : Role) (e : ℕ) {s : S} {ls : List ℕ} {gs : List (List ℕ)} → T (is-seen r)
+      → Shows s (low-first r e ls) (gap-first r e gs)
       → Shows s (e ∷ ls) ([] ∷ gs)
   unfolding low-first gap-first
-  shows-low k q p w = rw q at (shows-step p w)
+  kept missing e h w = absurd h
+  kept low-input e h w = w
+  kept high-input e h w = absurd h
+  kept low-output e h w = w
+  kept silent e h w = absurd h
 
-  -- Silent events in front are passed over.
   passed-over : (r : Role) (e : ℕ) {s : S} {ls : List ℕ} {gs : List (List ℕ)} → T (is-silent r)
       → Shows s (low-first r e ls) (gap-first r e gs)
       → Shows s ls gs
   unfolding low-first gap-first
   passed-over missing e h w = absurd h
-  passed-over (low k) e h w = absurd h
-  passed-over (high input) e h w = absurd h
-  passed-over (high output) e h w = w
-  passed-over (high internal) e h w = w
+  passed-over low-input e h w = absurd h
+  passed-over high-input e h w = absurd h
+  passed-over low-output e h w = absurd h
+  passed-over silent e h w = w
 
   pub shows-silent : {s t : S} {ls : List ℕ} {gs : List (List ℕ)} → Silent M O s t → Shows t ls gs → Shows s ls gs
   shows-silent still w = w
   shows-silent (then e h p a) w = passed-over _ e h (shows-step p (shows-silent a w))
 
   -- A low event in front, with silent steps around it.
-  pub shows-around : {e : ℕ} {s t : S} {ls : List ℕ} {gs : List (List ℕ)} (k : Kind) → role M O e ≡ low k
+  pub shows-around : {e : ℕ} {s t : S} {ls : List ℕ} {gs : List (List ℕ)} → T (is-seen (role M O e))
       → Around M O e s t → Shows t ls gs
       → Shows s (e ∷ ls) ([] ∷ gs)
-  shows-around k q r w = shows-silent (r .before) (shows-low k q (r .step) (shows-silent (r .after) w))
+  shows-around {e} h r w =
+      shows-silent (r .before) (kept _ e h (shows-step (r .step) (shows-silent (r .after) w)))

@@ -1,4 +1,5 @@
--- The low events and the gaps of lists of events, computed: no low event, none at all, repeated inputs, empty gaps, a low internal event.
+-- The low events and the gaps of lists of events, computed: no low event, none at all, repeated inputs, an empty gap, an internal
+-- event at a low level.
 use Prim.Native.Nat.{ℕ, zero, suc}
 use mathlib.Core.Path.{_≡_, refl}
 use mathlib.Core.List.{List, [], _∷_}
@@ -7,7 +8,7 @@ use Rattle.machine.specs.Machine.{input, output, internal, Event, absent
 use Rattle.machine.specs.Roles.{at-level, role-of}
 use Rattle.machine.specs.Traces.{push, low-first, gap-first, lows, gaps}
 
--- One state. 1 is a high input, 2 a low output, 3 a low internal event, 4 a high output, 5 a low input; level 0 is low.
+-- One state. 1 is a high input, 2 a low output, 3 an internal event at level 0, 4 a high output, 5 a low input; level 0 is low.
 abbrev five : ℕ → Event
 five zero = absent
 five (suc zero) = event input 0x40
@@ -40,11 +41,11 @@ one-gap : inputs (1 ∷ 4 ∷ 1 ∷ []) ≡ (1 ∷ 1 ∷ []) ∷ []
 unfolding inputs
 one-gap = refl
 
--- a low internal event is a low event, and a low input stands in no gap
-low-ones : low-events (1 ∷ 2 ∷ 1 ∷ 1 ∷ 3 ∷ 4 ∷ 5 ∷ []) ≡ 2 ∷ 3 ∷ 5 ∷ []
+-- an internal event is no low event, whatever its level, and ends no gap; a low input stands in no gap
+low-ones : low-events (1 ∷ 2 ∷ 1 ∷ 3 ∷ 1 ∷ 4 ∷ 5 ∷ []) ≡ 2 ∷ 5 ∷ []
 unfolding low-events
 low-ones = refl
 
-four-gaps : inputs (1 ∷ 2 ∷ 1 ∷ 1 ∷ 3 ∷ 4 ∷ 5 ∷ []) ≡ (1 ∷ []) ∷ (1 ∷ 1 ∷ []) ∷ [] ∷ [] ∷ []
+three-gaps : inputs (1 ∷ 2 ∷ 1 ∷ 3 ∷ 1 ∷ 4 ∷ 5 ∷ []) ≡ (1 ∷ []) ∷ (1 ∷ 1 ∷ []) ∷ [] ∷ []
 unfolding inputs
-four-gaps = refl
+three-gaps = refl

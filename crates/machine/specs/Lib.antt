@@ -5,4 +5,5 @@ pub mod Rules
 pub mod Traces
 pub mod Noninterference
 pub mod Hookup
+pub mod Earlier
 pub mod Examples

@@ -1,4 +1,5 @@
--- The sets of the events that the rules speak of, from those of the inputs, the low events and the high ones.
+-- The sets of the events that the rules speak of, from those of the inputs, of the events that the observer sees and of
+-- the others.
 use Prim.Native.Nat.{ℕ, zero, suc, _+_, _<_}
 use mathlib.Core.Path.{_≡_, refl, sym, ap, _∙_}
 use mathlib.Core.Bool.{Bool, true, false, not, _||_, _&&_, and-true, and-false, or-false}
@@ -9,9 +10,8 @@ use lib.ListN.{getD}
 use borrow.Author.Tests.{le-ltb}
 use Rattle.words.specs.Sets.{bit, union, intersection, difference, single, Represents}
 use Rattle.words.proofs.Sets.{bit-zero, bit-union, bit-intersection, bit-difference, bit-single}
-use Rattle.level.specs.Level.{low}
-use Rattle.part.specs.Record.{events, event-kind, level}
-use Rattle.relations.specs.Sets.{Concerned}
+use Rattle.part.specs.Record.{events, event-kind}
+use Rattle.relations.specs.Sets.{seen-at, Concerned}
 use Rattle.relations.proofs.Roles.{speaks, concerned-speaks}
 use Rattle.relations.proofs.Sorted.{below-next}
 
@@ -58,28 +58,25 @@ module _ (b : List ℕ) (l : ℕ) where
   abbrev pub is-input : ℕ → Bool
   is-input i = eqb (event-kind b i) 0
 
-  abbrev pub is-low : ℕ → Bool
-  is-low i = low l (level b i)
+  abbrev pub is-unseen : ℕ → Bool
+  is-unseen i = not (seen-at b l i)
 
-  abbrev pub is-high : ℕ → Bool
-  is-high i = not (is-low i)
-
-  told : (k x : ℕ) → k < 5 → Marked (λ i. speaks k (is-input i) (is-low i)) (events b) x → Concerned b l k x
+  told : (k x : ℕ) → k < 5 → Marked (λ i. speaks k (is-input i) (seen-at b l i)) (events b) x → Concerned b l k x
   told k x h m j = m j ∙ ap (λ (p : Bool). ltb j (events b) && p) (sym (concerned-speaks b l j k h))
 
-  pub concerned-all : (inputs lows highs two three four five : ℕ) → Marked is-input (events b) inputs
-      → Marked is-low (events b) lows → Marked is-high (events b) highs
-      → two ≡ intersection inputs highs → three ≡ intersection inputs lows
-      → four ≡ difference highs inputs → five ≡ difference lows inputs
+  pub concerned-all : (inputs seen unseen two three four five : ℕ) → Marked is-input (events b) inputs
+      → Marked (seen-at b l) (events b) seen → Marked is-unseen (events b) unseen
+      → two ≡ intersection inputs unseen → three ≡ intersection inputs seen
+      → four ≡ difference unseen inputs → five ≡ difference seen inputs
       → (k : ℕ) → k < 5 → Concerned b l k (getD (inputs ∷ two ∷ three ∷ four ∷ five ∷ []) k 0)
-  concerned-all inputs lows highs two three four five i l h e2 e3 e4 e5 zero s = told 0 inputs s i
-  concerned-all inputs lows highs two three four five i l h e2 e3 e4 e5 (suc zero) s =
-      told 1 two s (marked-both is-input is-high _ _ _ _ i h e2)
-  concerned-all inputs lows highs two three four five i l h e2 e3 e4 e5 (suc (suc zero)) s =
-      told 2 three s (marked-both is-input is-low _ _ _ _ i l e3)
-  concerned-all inputs lows highs two three four five i l h e2 e3 e4 e5 (suc (suc (suc zero))) s =
-      told 3 four s (marked-first is-high is-input _ _ _ _ h i e4)
-  concerned-all inputs lows highs two three four five i l h e2 e3 e4 e5 (suc (suc (suc (suc zero)))) s =
-      told 4 five s (marked-first is-low is-input _ _ _ _ l i e5)
-  concerned-all inputs lows highs two three four five i l h e2 e3 e4 e5 (suc (suc (suc (suc (suc k))))) s =
+  concerned-all inputs seen unseen two three four five i s u e2 e3 e4 e5 zero h = told 0 inputs h i
+  concerned-all inputs seen unseen two three four five i s u e2 e3 e4 e5 (suc zero) h =
+      told 1 two h (marked-both is-input is-unseen _ _ _ _ i u e2)
+  concerned-all inputs seen unseen two three four five i s u e2 e3 e4 e5 (suc (suc zero)) h =
+      told 2 three h (marked-both is-input (seen-at b l) _ _ _ _ i s e3)
+  concerned-all inputs seen unseen two three four five i s u e2 e3 e4 e5 (suc (suc (suc zero))) h =
+      told 3 four h (marked-first is-unseen is-input _ _ _ _ u i e4)
+  concerned-all inputs seen unseen two three four five i s u e2 e3 e4 e5 (suc (suc (suc (suc zero)))) h =
+      told 4 five h (marked-first (seen-at b l) is-input _ _ _ _ s i e5)
+  concerned-all inputs seen unseen two three four five i s u e2 e3 e4 e5 (suc (suc (suc (suc (suc k))))) h =
       absurd (omega arith)

@@ -1,36 +1,32 @@
--- Which rules speak of an event, by whether it is an input and whether it is low.
-use Prim.Native.Nat.{ℕ, zero, suc, _<_}
+-- Which rules speak of an event, by whether it is an input and whether the observer sees it.
+use Prim.Native.Nat.{ℕ, zero, suc, _≤_, _<_}
 use mathlib.Core.Path.{_≡_, refl, sym, _∙_}
 use mathlib.Core.Bool.{Bool, true, false, not, Bool·beq, _&&_}
 use mathlib.Core.List.{List}
+use native.Mathlib.Omega.{arith}
 use lib.Dec.{eqb, eqb·suc-zero}
 use Rattle.bounded.specs.Search.{all}
 use Rattle.bounded.proofs.Search.{all-at}
 use Rattle.machine.specs.Machine.{Kind, input, output, internal}
-use Rattle.machine.specs.Roles.{at-level, role-of}
+use Rattle.machine.specs.Roles.{Role, at-level, role-of, is-input, is-seen}
 use Rattle.level.specs.Level.{low}
 use Rattle.part.specs.Record.{event-kind, level}
 use Rattle.part.specs.Events.{kind-of}
-use Rattle.relations.specs.Sets.{concerns}
+use Rattle.relations.specs.Sets.{concerns, seen-at}
 use Rattle.relations.specs.Relations.{role-at, rule-at}
 
--- Rule k + 1 speaks of an input, or another event, that is low or not.
+-- Rule k + 1 speaks of an input, or another event, that is seen or not.
 abbrev pub speaks : ℕ → Bool → Bool → Bool
-speaks zero is-input is-low = is-input
-speaks (suc zero) is-input is-low = is-input && not is-low
-speaks (suc (suc zero)) is-input is-low = is-input && is-low
-speaks (suc (suc (suc zero))) is-input is-low = not is-low && not is-input
-speaks (suc (suc (suc (suc k)))) is-input is-low = is-low && not is-input
+speaks zero is-input is-seen = is-input
+speaks (suc zero) is-input is-seen = is-input && not is-seen
+speaks (suc (suc zero)) is-input is-seen = is-input && is-seen
+speaks (suc (suc (suc zero))) is-input is-seen = not is-seen && not is-input
+speaks (suc (suc (suc (suc k)))) is-input is-seen = is-seen && not is-input
 
-abbrev of-input : Kind → Bool
-of-input input = true
-of-input output = false
-of-input internal = false
+abbrev right : Role → ℕ → Bool
+right r k = Bool·beq (concerns (rule-at k) r) (speaks k (is-input r) (is-seen r))
 
-abbrev right : Kind → Bool → ℕ → Bool
-right kind l k = Bool·beq (concerns (rule-at k) (at-level kind l)) (speaks k (of-input kind) l)
-
-all-right : (kind : Kind) (l : Bool) → all 5 (right kind l) ≡ true
+all-right : (kind : Kind) (l : Bool) → all 5 (right (at-level kind l)) ≡ true
 unfolding all rule-at at-level
 all-right input true = refl
 all-right input false = refl
@@ -45,15 +41,41 @@ beq-eq true false e = sym e
 beq-eq false true e = e
 beq-eq false false e = refl
 
-kind-input : (k : ℕ) → of-input (kind-of k) ≡ eqb k 0
-unfolding kind-of
-kind-input zero = refl
-kind-input (suc zero) = refl
-kind-input (suc (suc k)) = sym (eqb·suc-zero (suc k))
+-- An input is known by its kind alone; of another kind an event is seen at a low level or, as an internal one, never.
+kind-input : (k : ℕ) (l : Bool) → is-input (at-level (kind-of k) l) ≡ eqb k 0
+unfolding kind-of at-level
+kind-input zero true = refl
+kind-input zero false = refl
+kind-input (suc zero) true = refl
+kind-input (suc zero) false = refl
+kind-input (suc (suc k)) l = sym (eqb·suc-zero (suc k))
+
+kind-seen : (k : ℕ) (l : Bool) → k < 2 → is-seen (at-level (kind-of k) l) ≡ l
+unfolding kind-of at-level
+kind-seen zero true h = refl
+kind-seen zero false h = refl
+kind-seen (suc zero) true h = refl
+kind-seen (suc zero) false h = refl
+kind-seen (suc (suc k)) l h = absurd (omega arith)
+
+kind-unseen : (k : ℕ) (l : Bool) → 2 ≤ k → is-seen (at-level (kind-of k) l) ≡ false
+unfolding kind-of at-level
+kind-unseen zero l h = absurd (omega arith)
+kind-unseen (suc zero) l h = absurd (omega arith)
+kind-unseen (suc (suc k)) l h = refl
+
+module _ (b : List ℕ) (l i : ℕ) where
+  pub internal-unseen : 2 ≤ event-kind b i → seen-at b l i ≡ false
+  unfolding role-at role-of
+  internal-unseen h = kind-unseen (event-kind b i) (low l (level b i)) h
+
+  pub seen-by-level : event-kind b i < 2 → seen-at b l i ≡ low l (level b i)
+  unfolding role-at role-of
+  seen-by-level h = kind-seen (event-kind b i) (low l (level b i)) h
 
 pub concerned-speaks : (b : List ℕ) (l i k : ℕ) → k < 5
-    → concerns (rule-at k) (role-at b l i) ≡ speaks k (eqb (event-kind b i) 0) (low l (level b i))
+    → concerns (rule-at k) (role-at b l i) ≡ speaks k (eqb (event-kind b i) 0) (seen-at b l i)
 unfolding role-at role-of
 concerned-speaks b l i k h =
     beq-eq _ _ (all-at _ 5 (all-right (kind-of (event-kind b i)) (low l (level b i))) k h)
-    ∙ rw (kind-input (event-kind b i))
+    ∙ rw (kind-input (event-kind b i) (low l (level b i)))

@@ -1,5 +1,6 @@
 // The events of a record: which of them a rule speaks of, and where one leads.
 ghost use Prim.Native.Nat.{ℕ, _<_};
+ghost use mathlib.Core.Path.{_≡_};
 ghost use mathlib.Core.Bool.{_||_, _&&_};
 ghost use lib.Dec.{eqb};
 ghost use lib.ListN.{getD};
@@ -7,7 +8,7 @@ ghost use Rattle.words.specs.Arrays.{Filled, sets-of};
 ghost use Rattle.words.specs.Sets.{bit, Represents, gathered};
 ghost use Rattle.part.specs.Record.{states, events, row};
 ghost use Rattle.part.specs.Frame.{Framed};
-ghost use Rattle.relations.specs.Sets.{Concerned};
+ghost use Rattle.relations.specs.Sets.{seen-at, Concerned};
 use level::Level;
 use part::Part;
 use words::set;
@@ -34,6 +35,18 @@ fn mark(x: u64, i: usize, test: bool) -> u64
     x
 }
 
+// The observer sees the event at place i: an input or an output at a low level, and no internal event.
+fn is_seen(b: &[u8], observer: u8, i: usize) -> bool
+    requires { ⌜ Framed (now b) ⌝ }
+    requires { ⌜ i < events (now b) ⌝ }
+    ensures { λ r. ⌜ r ≡ seen-at (now (b .entry)) observer i ⌝ }
+{
+    if Part::event_kind(b, i) >= Part::INTERNAL {
+        return false;
+    }
+    Level::is_low(observer, Part::level(b, i))
+}
+
 // By rule, the set of the events that it speaks of.
 pub fn concerned(b: &[u8], observer: u8) -> [u64; 5]
     requires { ⌜ Framed (now b) ⌝ }
@@ -41,21 +54,21 @@ pub fn concerned(b: &[u8], observer: u8) -> [u64; 5]
 {
     let m = Part::events(b);
     let mut inputs = 0;
-    let mut lows = 0;
-    let mut highs = 0;
+    let mut seen = 0;
+    let mut unseen = 0;
     let mut i = 0;
     while i < m {
-        let low = Level::is_low(observer, Part::level(b, i));
+        let sees = is_seen(b, observer, i);
         inputs = mark(inputs, i, Part::event_kind(b, i) == 0);
-        lows = mark(lows, i, low);
-        highs = mark(highs, i, !low);
+        seen = mark(seen, i, sees);
+        unseen = mark(unseen, i, !sees);
         i += 1;
     }
     let mut sets = [inputs; 5];
-    sets[RULE_2] = set::intersection(inputs, highs);
-    sets[RULE_3] = set::intersection(inputs, lows);
-    sets[RULE_4] = set::difference(highs, inputs);
-    sets[RULE_5] = set::difference(lows, inputs);
+    sets[RULE_2] = set::intersection(inputs, unseen);
+    sets[RULE_3] = set::intersection(inputs, seen);
+    sets[RULE_4] = set::difference(unseen, inputs);
+    sets[RULE_5] = set::difference(seen, inputs);
     sets
 }
 

@@ -6,5 +6,6 @@ pub mod Sameness
 pub mod EventScans
 pub mod Reflect
 pub mod First
+pub mod Earlier
 pub mod Theorems
 pub mod Verdicts

@@ -8,7 +8,7 @@ use mathlib.Core.Logic.{_↔_}
 use lib.Dec.{T}
 use Rattle.bounded.specs.Search.{any}
 use Rattle.machine.specs.Roles.{Role, missing, role-of, role, is-input, is-low-input, is-high-input, is-silent}
-use Rattle.machine.specs.Roles.{is-low-action}
+use Rattle.machine.specs.Roles.{is-low-output}
 use Rattle.machine.specs.Rules.{Rule, rule-1, rule-2, rule-3, rule-4, rule-5, Around, Asks, Answers, Broken}
 use Rattle.machine.proofs.Traces.{test-as}
 use Rattle.level.specs.Level.{low}
@@ -60,7 +60,7 @@ module _ (b : List ℕ) (a : Accepted b) (e i : ℕ) (p : place b e ≡ some i) 
       (steps s t)
   asks-iff rule-3 s t u = step-iff is-low-input s t u
   asks-iff rule-4 s t u = step-iff is-silent s t u
-  asks-iff rule-5 s t u = step-iff is-low-action s t u
+  asks-iff rule-5 s t u = step-iff is-low-output s t u
 
   around-iff : (u v : State b) → T (around b (observer b) i (u .0) (v .0)) ↔ Around (machine b a) (observation b) e u v
   unfolding around
@@ -104,7 +104,7 @@ module _ (b : List ℕ) (a : Accepted b) (e : ℕ) (p : place b e ≡ none) wher
   absent-asks rule-2 s t u h = never is-high-input (h .0)
   absent-asks rule-3 s t u h = never is-low-input (h .0)
   absent-asks rule-4 s t u h = never is-silent (h .0)
-  absent-asks rule-5 s t u h = never is-low-action (h .0)
+  absent-asks rule-5 s t u h = never is-low-output (h .0)
 
 -- An event that is asked anything has a place.
 pub asked-placed : (b : List ℕ) (a : Accepted b) (r : Rule) (e : ℕ) (s t u : State b)

@@ -10,6 +10,7 @@ use Rattle.bounded.proofs.Search.{true-or-false, count-le, count-some, total-sa
 use Rattle.bounded.proofs.Paths.{length-visits}
 use Rattle.machine.specs.Rules.{Rule, rule-1, rule-2, rule-3, rule-4, rule-5, Restrictive}
 use Rattle.machine.proofs.Noninterference.{restrictive-hides}
+use Rattle.machine.proofs.Earlier.{earlier-related}
 use Rattle.part.specs.Record.{observer, states, observer-of}
 use Rattle.part.specs.Rejections.{Condition, first-of, rejection, Accepted}
 use Rattle.part.specs.Machine.{machine, observation}
@@ -33,6 +34,7 @@ use Rattle.restrictive.specs.Theorems.{
   Names,
   BreaksExactly,
   PassingHides,
+  EarlierPasses,
   TakesUp,
   passing,
   breaking,
@@ -41,6 +43,8 @@ use Rattle.restrictive.specs.Theorems.{
 }
 use Rattle.bounded.specs.Search.{Below, count, total}
 use Rattle.bounded.proofs.Truth.{not-not}
+use Rattle.restrictive.specs.Earlier.{as-outputs}
+use Rattle.restrictive.proofs.Earlier.{earlier-accepted, is-earlier}
 use Rattle.restrictive.proofs.Taken.{taken-all, taken-none}
 use Rattle.restrictive.proofs.Reflect.{answers-iff, broken-iff, asked-placed}
 use Rattle.restrictive.proofs.First.{Finds, finds-as, IsViolation, finds-violation}
@@ -199,6 +203,11 @@ passing-restrictive b a e = restrictive-iff b a .0 (by-rules-iff b _ .0 e .1)
 
 pub passing-hides : PassingHides
 passing-hides b a e = restrictive-hides _ _ _ (passing-restrictive b a e)
+
+pub earlier-passes : EarlierPasses
+earlier-passes b e =
+    let (a, R) = passes-exactly (as-outputs b) .0 e in
+    passes-exactly b .1 (earlier-accepted b a, earlier-related (is-earlier b a) R)
 
 -- ---- a break names one of the five rules
 

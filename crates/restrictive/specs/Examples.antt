@@ -1,11 +1,12 @@
--- Records that tell the rules and the count from their wrong readings (document 01, "Wrong readings"; document 02, f).
+-- Records that tell the rules and the count from their wrong readings (document 01, "Wrong readings"; document 02, f and i).
 use Prim.Native.Nat.{ℕ, _+_, _*_}
 use mathlib.Core.Bool.{Bool, _&&_}
 use mathlib.Core.List.{List, [], _∷_, _++_}
 use lib.Dec.{T, eqb}
 use lib.ListN.{length}
-use Rattle.words.specs.LittleEndian.{digits}
+use Rattle.words.specs.LittleEndian.{number, digits}
 use Rattle.restrictive.specs.Verdict.{Verdict, pass, refused}
+use Rattle.restrictive.specs.Earlier.{holds-kind, as-output-byte, as-outputs}
 use Rattle.restrictive.specs.Judged.{judged, counted, same, broken-at}
 
 -- An entry, and a record for observer 0 with start 0 from classes, entries and rows.
@@ -44,6 +45,41 @@ not-reached = sample (0 ∷ 1 ∷ []) 1 (entry 1 0 0) (1 ∷ 0 ∷ [])
 -- Two rules are broken: rule 1 by event 2 comes before rule 2 by event 1.
 abbrev rule-before-event : List ℕ
 rule-before-event = sample (0 ∷ 1 ∷ []) 2 (entry 1 0 0x40 ++ entry 2 0 0) (2 ∷ 2 ∷ 1 ∷ 0 ∷ [])
+
+-- Input 1 changes the state; event 2, at a low level and of the kind given, leads from state 0 to itself, and from state 1, of the same
+-- class, nowhere. An output shows the state.
+abbrev mute : ℕ → List ℕ
+mute kind = sample (0 ∷ 0 ∷ []) 2 (entry 1 0 0x40 ++ entry 2 kind 0) (2 ∷ 1 ∷ 1 ∷ 0 ∷ [])
+
+-- Event 1 leads from state 0 to state 2, of another class, and not from state 1: at a low level an output breaks rule 5 there, and an
+-- internal event rule 4.
+abbrev leaving : ℕ → List ℕ
+leaving kind = sample (0 ∷ 0 ∷ 1 ∷ []) 1 (entry 1 kind 0) (4 ∷ 0 ∷ 0 ∷ [])
+
+-- State 1 answers low output 1 only behind a step of event 2. At a low level that step is silent where 2 is internal, and not where it is
+-- an output.
+abbrev answered-behind : ℕ → List ℕ
+answered-behind kind = sample (0 ∷ 0 ∷ []) 2 (entry 1 1 0 ++ entry 2 kind 0) (1 ∷ 0 ∷ 0 ∷ 1 ∷ [])
+
+-- In the earlier reading internal events count like outputs: `mute 2` passes, and did not pass in it. Of its bytes only the kind is
+-- changed, though 2 is an identifier, a number of states and events and a row too. A kind above 2 is kept, and refused.
+earlier-so : Bool
+unfolding judged sample as-outputs as-output-byte holds-kind
+earlier-so =
+    same (judged (mute 1)) (broken-at 5 2 0 0 1)
+    && same (judged (mute 2)) pass
+    && same (judged (as-outputs (mute 2))) (broken-at 5 2 0 0 1)
+    && eqb (number 52 (as-outputs (mute 2)) 0) (number 52 (mute 1) 0)
+    && same (judged (leaving 1)) (broken-at 5 1 0 2 1)
+    && same (judged (leaving 2)) (broken-at 4 1 0 2 1)
+    && same (judged (answered-behind 1)) (broken-at 5 1 0 0 1)
+    && same (judged (answered-behind 2)) pass
+    && same (judged (as-outputs (answered-behind 2))) (broken-at 5 1 0 0 1)
+    && same (judged (as-outputs (mute 3))) (refused 7)
+
+earlier : T earlier-so
+unfolding earlier-so
+earlier = tt
 
 rules-so : Bool
 unfolding judged sample

@@ -1,5 +1,6 @@
 pub mod Tests
 pub mod Verdict
+pub mod Earlier
 pub mod Sets
 pub mod Answers
 pub mod Found

@@ -13,6 +13,7 @@ use Rattle.part.specs.Rejections.{Condition, conditions, Accepted}
 use Rattle.part.specs.Machine.{State, machine, observation}
 use Rattle.relations.specs.Relations.{visits}
 use Rattle.restrictive.specs.Verdict.{Violation, pass, refused, breaks, verdict, taken}
+use Rattle.restrictive.specs.Earlier.{as-outputs}
 
 -- A record passes exactly if no rejection applies to it and its machine is restrictive with its own partition (demand 2).
 abbrev pub PassesExactly : Type 0
@@ -62,6 +63,11 @@ BreaksExactly =
 -- A passing part hides its high inputs: generalized noninterference (demand 3, last sentence).
 abbrev pub PassingHides : Type 0
 PassingHides = (b : List ℕ) (a : Accepted b) → verdict b ≡ pass → Noninterfering (machine b a) (observation b)
+
+-- A record that passed in the earlier reading passes (document 02, i). Document 01 treats an internal event as an output of its level, so
+-- that the earlier reading of b is the reading of b with each kind 2 made 1.
+abbrev pub EarlierPasses : Type 0
+EarlierPasses = (b : List ℕ) → verdict (as-outputs b) ≡ pass → verdict b ≡ pass
 
 -- Check takes up the silent closures: the record passes, or breaks rule 4 or 5.
 pub data TakesUp (b : List ℕ) : Type 0 where

@@ -228,7 +228,7 @@ fn with_closures(
     ensures { λ r. ⌜ found-of r ≡ first-violation (now (b .entry)) (observing observer (now (column .entry))) ⌝ }
 {
     let silent = concerned[RULE_4];
-    let actions = concerned[RULE_5];
+    let outputs = concerned[RULE_5];
     let met = set::gather_each(column.len(), closure, labels);
     let found = rule_4(b, observer, column, silent, &met, scratch);
     match found {
@@ -240,7 +240,7 @@ fn with_closures(
         observer,
         column,
         RULE_5,
-        actions,
+        outputs,
         true,
         closure,
         &met,
@@ -267,14 +267,14 @@ fn rules_from_4(
     ensures { λ r. ⌜ FindingOf (now (b .entry)) (observing observer (now (column .entry))) r ⌝ }
 {
     let silent = concerned[RULE_4];
-    let actions = concerned[RULE_5];
+    let outputs = concerned[RULE_5];
     if silent == 0 {
         let found = by_event(
             b,
             observer,
             column,
             RULE_5,
-            actions,
+            outputs,
             false,
             labels,
             labels,

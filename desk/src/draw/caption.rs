@@ -1,7 +1,7 @@
 //! The text under a drawing: title, observer, verdict in words, legend.
 
 use super::dot::{escaped, filled};
-use super::{HIGH, LOW};
+use super::{SEEN, UNSEEN};
 use crate::part::Table;
 use crate::verdict::{self, Verdict};
 
@@ -18,11 +18,12 @@ fn verdict_row(table: &Table, verdict: &Verdict) -> String {
     row(&format!("<B>{}</B>", lines.join("<BR/>")))
 }
 
+/// What the observer sees of an event, then the signs.
 fn legend() -> String {
-    let low = format!("<FONT COLOR=\"{LOW}\">━━━━ low</FONT>");
-    let high = format!("<FONT COLOR=\"{HIGH}\">━ ━ ━ <I>high</I></FONT>");
-    let both = format!("<FONT COLOR=\"{LOW}\">══</FONT><FONT COLOR=\"{HIGH}\">══</FONT> both");
-    row(&format!("{low}     {high}     {both}     ? input     ! output     τ internal     ● start"))
+    let seen = format!("<FONT COLOR=\"{SEEN}\">━━━━ seen: low input, low output</FONT>");
+    let unseen = format!("<FONT COLOR=\"{UNSEEN}\">━ ━ ━ <I>unseen: high or internal</I></FONT>");
+    let both = format!("<FONT COLOR=\"{SEEN}\">══</FONT><FONT COLOR=\"{UNSEEN}\">══</FONT> both");
+    row(&format!("{seen}     {unseen}     {both}")) + &row("? input     ! output     τ internal     ● start")
 }
 
 /// The caption as an HTML-like label.

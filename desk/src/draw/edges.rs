@@ -2,7 +2,7 @@
 
 use super::breaks::{is_named, missing};
 use super::dot::{attributes, escaped, filled};
-use super::{HIGH, LOW};
+use super::{SEEN, UNSEEN};
 use crate::part::{Event, Kind, Part, Table};
 use crate::verdict::Break;
 
@@ -23,35 +23,35 @@ pub fn event_text(table: &Table, event: &Event) -> String {
     format!("{}{}{name}", mark(event.kind), event.identifier)
 }
 
-/// Low events upright, high ones in italics and another colour. The blanks keep the line off the text.
-fn styled(text: &str, low: bool) -> String {
+/// Seen events upright, unseen ones in italics and another colour. The blanks keep the line off the text.
+fn styled(text: &str, seen: bool) -> String {
     let text = escaped(text);
-    match low {
-        true => format!("<FONT COLOR=\"{LOW}\">&#160;{text}&#160;</FONT>"),
-        false => format!("<FONT COLOR=\"{HIGH}\"><I>&#160;{text}&#160;</I></FONT>"),
+    match seen {
+        true => format!("<FONT COLOR=\"{SEEN}\">&#160;{text}&#160;</FONT>"),
+        false => format!("<FONT COLOR=\"{UNSEEN}\"><I>&#160;{text}&#160;</I></FONT>"),
     }
 }
 
-/// The label's lines: low events first, several to a line while they are short.
+/// The label's lines: seen events first, several to a line while they are short.
 fn label(table: &Table, events: &[&Event]) -> String {
     let mut lines = Vec::new();
-    for low in [true, false] {
-        let here = events.iter().filter(|event| table.part.is_low(event) == low);
+    for seen in [true, false] {
+        let here = events.iter().filter(|event| table.part.is_seen(event) == seen);
         let texts: Vec<String> = here.map(|event| event_text(table, event)).collect();
         let filled = filled(texts.iter().map(String::as_str), ", ", WIDTH);
-        lines.extend(filled.iter().map(|line| styled(line, low) + "<BR ALIGN=\"LEFT\"/>"));
+        lines.extend(filled.iter().map(|line| styled(line, seen) + "<BR ALIGN=\"LEFT\"/>"));
     }
     lines.concat()
 }
 
-/// Line style and colour: low solid, high dashed, both a double line.
+/// Line style and colour: seen solid, unseen dashed, both a double line.
 fn line(table: &Table, events: &[&Event]) -> (&'static str, String) {
-    let any_low = events.iter().any(|event| table.part.is_low(event));
-    let any_high = events.iter().any(|event| !table.part.is_low(event));
-    match (any_low, any_high) {
-        (true, true) => ("solid", format!("{LOW}:transparent:{HIGH}")),
-        (true, false) => ("solid", LOW.to_string()),
-        _ => ("dashed", HIGH.to_string()),
+    let any_seen = events.iter().any(|event| table.part.is_seen(event));
+    let any_unseen = events.iter().any(|event| !table.part.is_seen(event));
+    match (any_seen, any_unseen) {
+        (true, true) => ("solid", format!("{SEEN}:transparent:{UNSEEN}")),
+        (true, false) => ("solid", SEEN.to_string()),
+        _ => ("dashed", UNSEEN.to_string()),
     }
 }
 

@@ -9,9 +9,9 @@ mod nodes;
 use crate::part::Table;
 use crate::verdict::Verdict;
 
-/// Colours of low and high events. In grey print the line styles and the italics tell them apart.
-const LOW: &str = "#0b3d91";
-const HIGH: &str = "#c4400c";
+/// Colours of seen and unseen events. In grey print the line styles and the italics tell them apart.
+const SEEN: &str = "#0b3d91";
+const UNSEEN: &str = "#c4400c";
 const FONT: &str = "Helvetica";
 
 /// The DOT text of a part. `title` stands over the legend; a verdict must fit the part.
@@ -51,7 +51,7 @@ mod tests {
     use crate::random::{self, Rng};
     use crate::{reader, verdict};
 
-    /// Event 1 is a high input, 2 and 3 are low; 2 and 3 share the edge from a to b with 1.
+    /// Event 1 is a high input, 2 a low output, 3 internal and at a low level; all three share the edge from a to b.
     const TABLE: &str = "part
 observer rank 1 compartments none
 states a b c
@@ -64,6 +64,7 @@ event 2 output rank 1 compartments none
   a -> b c
 event 3 internal rank 0 compartments none
   a -> b
+  b -> c
 ";
 
     fn drawn(text: &str, line: Option<&str>) -> String {
@@ -104,11 +105,25 @@ event 3 internal rank 0 compartments none
         let dot = drawn(TABLE, None);
         let both = line(&dot, "s0 -> s1 [");
         assert!(both.contains("color=\"#0b3d91:transparent:#c4400c\""));
-        assert!(both.contains("&#160;!2, τ3&#160;") && both.contains("<I>&#160;?1 x&lt;y&#160;</I>"));
+        assert!(both.contains(">&#160;!2&#160;<") && both.contains("<I>&#160;?1 x&lt;y, τ3&#160;</I>"));
         let low = line(&dot, "s0 -> s2 [");
         assert!(low.contains("style=\"solid\", color=\"#0b3d91\""));
         let high = line(&dot, "s1 -> s1 [");
         assert!(high.contains("style=\"dashed\", color=\"#c4400c\""));
+    }
+
+    /// Its level makes no difference.
+    #[test]
+    fn an_internal_event_is_unseen() {
+        for level in ["rank 0 compartments none", "rank 1 compartments none", "rank 2 compartments 4"] {
+            let changed = TABLE.replace("rank 0 compartments none\n  a -> b", &format!("{level}\n  a -> c"));
+            let dot = drawn(&changed, None);
+            assert!(line(&dot, "s0 -> s2 [").contains("color=\"#0b3d91:transparent:#c4400c\""));
+            let inside = line(&dot, "s1 -> s2 [");
+            assert!(inside.contains("<FONT COLOR=\"#c4400c\"><I>&#160;τ3&#160;</I></FONT>"));
+            assert!(inside.contains("style=\"dashed\", color=\"#c4400c\""));
+            assert!(line(&dot, "graph [label=<").contains("<I>unseen: high or internal</I>"));
+        }
     }
 
     #[test]
@@ -127,10 +142,19 @@ event 3 internal rank 0 compartments none
         let dot = drawn(&split, Some("rule 2 event 1 from 0 to 1 other 0"));
         let edges: Vec<&str> = dot.lines().filter(|line| line.starts_with("  s0 -> s1 [")).collect();
         assert_eq!(edges.len(), 2);
-        assert!(edges[0].contains("!2, τ3") && !edges[0].contains("penwidth"));
+        assert!(edges[0].contains("!2") && edges[0].contains("τ3") && !edges[0].contains("penwidth"));
         assert!(edges[1].contains("?1 x&lt;y") && edges[1].contains("penwidth=\"3.5\""));
         assert!(line(&dot, "s0 [").contains("<B> s </B>") && line(&dot, "s1 [").contains("<B> t </B>"));
         assert!(!dot.contains("missing"));
+    }
+
+    #[test]
+    fn a_break_of_rule_4_by_an_internal_event() {
+        let dot = drawn(TABLE, Some("rule 4 event 3 from 1 to 2 other 0"));
+        assert!(line(&dot, "s1 -> s2 [").contains("penwidth=\"3.5\""));
+        assert!(line(&dot, "missing [").contains("✗ no answer to τ3"));
+        line(&dot, "s0 -> missing [");
+        assert!(dot.contains("Rule 4 is broken: the internal event 3 leads from s (state 1, b) to t"));
     }
 
     #[test]

@@ -4,6 +4,7 @@
 //! `promise [--seed N]`
 
 use second::category::Tally;
+use second::category_join::shared_low_events;
 use second::check;
 use second::examples;
 use second::join;
@@ -12,6 +13,7 @@ use second::record::{self, Part};
 use second::rng::Rng;
 use second::traces::{self, Bounds, Counterexample};
 use second::wrong;
+use second::wrong_internal::{as_outputs, reading};
 use std::process::exit;
 
 /// The search without a bound on lengths gives up beyond this many pairs of sets.
@@ -29,17 +31,22 @@ const BOUNDS: [Bounds; 6] = [
     Bounds { trace_length: 2, list_length: 1 },
 ];
 
-fn high_input_count(part: &Part) -> usize {
-    (0..part.event_count()).filter(|&e| part.is_input(e) && part.is_high(e)).count()
+fn high_inputs(part: &Part) -> Vec<usize> {
+    (0..part.event_count()).filter(|&e| part.is_input(e) && part.is_high(e)).collect()
 }
 
 fn low_event_count(part: &Part) -> usize {
-    (0..part.event_count()).filter(|&e| part.is_low(e)).count()
+    (0..part.event_count()).filter(|&e| traces::is_low_event(part, e)).count()
+}
+
+/// Has the trace an internal event of a low level?
+fn has_low_internal(part: &Part, trace: &[usize]) -> bool {
+    trace.iter().any(|&e| part.is_internal(e) && part.is_low(e))
 }
 
 /// About how many choices of lists the bounded search would try.
 fn estimate(part: &Part, bounds: Bounds) -> f64 {
-    let lists = traces::lists_up_to(&(0..high_input_count(part)).collect::<Vec<usize>>(), bounds.list_length).len();
+    let lists = traces::lists_up_to(&high_inputs(part), bounds.list_length).len();
     let mut sum = 0.0;
     let mut words = 1.0;
     let mut choices = lists as f64;
@@ -60,7 +67,76 @@ fn bounds_for(part: &Part) -> Bounds {
     BOUNDS[BOUNDS.len() - 1]
 }
 
+/// The kinds of passing parts that are tried.
+const PREFIXES: [&str; 3] = ["part", "joined", "rack of three"];
+
+const MATCHING: &str = "matching traces checked step by step";
+const SHARED_LOW: &str = "joined: a shared low event in a matching trace";
+const WITH_BROKEN: &str = "joined with a part that breaks a rule, the other passing: counterexample found";
+
+/// Whether a part passes by some reading.
+type Passes = fn(&Part) -> bool;
+
+/// The readings by which parts pass that do not keep the promise.
+const WRONG_READINGS: [(&str, Passes); 5] = [
+    ("high inputs quiet", wrong::passes_with_high_inputs_quiet),
+    ("incomparable is low", wrong::passes_with_incomparable_low),
+    ("rank alone", wrong::passes_by_rank_alone),
+    ("low internal events under no rule", |part| reading("all quiet, low ones under no rule").passes(part)),
+    ("internal events under no rule", |part| reading("all quiet, none under a rule").passes(part)),
+];
+
+/// The categories of passing parts with this prefix, each with its least number. The last one is document 01's reading,
+/// by which a trace has low internal events too: parts that pass need not keep the promise about them.
+fn kinds(prefix: &str) -> [(String, usize); 5] {
+    let name = |kind: &str| format!("{}: {}", prefix, kind);
+    let least = if prefix == "rack of three" { 200 } else { 1000 };
+    let least_misread = if prefix == "part" { 200 } else { 20 };
+    [
+        (name("all"), least),
+        (name("high inputs, and low events within three steps"), least),
+        (name("the same, and quiet steps matter"), 200),
+        (name("the same, and low internal events within three steps"), 200),
+        (name("counterexample found if low internal events are low events of a trace"), least_misread),
+    ]
+}
+
+/// The names for a rule: parts that break it, and those of them with a counterexample.
+fn rule_names(rule: u32) -> (String, String) {
+    (format!("breaks rule {}: tried", rule), format!("breaks rule {}: counterexample found", rule))
+}
+
+fn misread_name(reading: &str) -> String {
+    format!("passes if {}: counterexample found", reading)
+}
+
+/// Every category with its least number.
+fn needs() -> Tally {
+    let mut tally = Tally::new();
+    for (name, least) in PREFIXES.into_iter().flat_map(kinds) {
+        tally.need(&name, least);
+    }
+    tally.need("joined: a shared high event", 200);
+    tally.need("joined: a shared low event", 200);
+    tally.need(SHARED_LOW, 50);
+    tally.need(MATCHING, 1000);
+    for whose in ["both", "the given one alone", "the matching one alone"] {
+        tally.need(&format!("{}: a low internal event in {}", MATCHING, whose), 50);
+    }
+    for rule in 1..=5 {
+        let (tried, found) = rule_names(rule);
+        tally.need(&tried, 500);
+        tally.need(&found, 20);
+    }
+    for (reading, _) in WRONG_READINGS {
+        tally.need(&misread_name(reading), 20);
+    }
+    tally.need(WITH_BROKEN, 20);
+    tally
+}
+
 struct Run {
+    rng: Rng,
     tally: Tally,
     choices: u64,
     decided: usize,
@@ -77,8 +153,8 @@ fn report(part: &Part, found: &Counterexample) -> ! {
 
 impl Run {
     /// A passing part: both searches must come back without a counterexample, and a matching trace is checked
-    /// step by step for some choices.
-    fn must_keep(&mut self, rng: &mut Rng, part: &Part) {
+    /// step by step for as many choices as are to be tried. These matching traces are given back.
+    fn must_keep(&mut self, part: &Part, tries: usize) -> Vec<Vec<usize>> {
         assert!(check::passes(part));
         let outcome = traces::search(part, bounds_for(part));
         self.choices += outcome.choices;
@@ -91,52 +167,190 @@ impl Run {
             None => self.undecided += 1,
         }
         let all = traces::traces_up_to(part, 3);
-        let high_inputs: Vec<usize> =
-            (0..part.event_count()).filter(|&e| part.is_input(e) && part.is_high(e)).collect();
-        for _ in 0..5 {
-            let trace = &all[rng.below(all.len())];
-            let low = traces::low_events(part, trace);
-            let mut lists = Vec::new();
-            for _ in 0..low.len() + 1 {
-                let mut list = Vec::new();
-                if !high_inputs.is_empty() {
-                    for _ in 0..rng.below(5) {
-                        list.push(rng.pick(&high_inputs));
-                    }
-                }
-                lists.push(list);
-            }
-            match traces::matching_trace(part, &low, &lists) {
-                Some(matching) => {
-                    assert!(traces::is_matching_trace(part, &matching, &low, &lists));
-                    assert!(traces::matching_trace_exists(part, &low, &lists));
-                    self.tally.count("matching traces checked step by step");
-                }
-                None => report(part, &Counterexample { trace: trace.clone(), lists }),
-            }
+        let mut found = Vec::new();
+        for _ in 0..tries {
+            let trace = &all[self.rng.below(all.len())];
+            found.push(self.must_match(part, trace));
         }
+        found
+    }
+
+    /// A matching trace for a given one and some choice of lists.
+    fn must_match(&mut self, part: &Part, given: &[usize]) -> Vec<usize> {
+        let low = traces::low_events(part, given);
+        let lists: Vec<Vec<usize>> = (0..low.len() + 1).map(|_| self.some_high_inputs(part)).collect();
+        match traces::matching_trace(part, &low, &lists) {
+            Some(matching) => {
+                assert!(traces::is_matching_trace(part, &matching, &low, &lists));
+                assert!(traces::matching_trace_exists(part, &low, &lists));
+                self.count_matching(part, given, &matching);
+                matching
+            }
+            None => report(part, &Counterexample { trace: given.to_vec(), lists }),
+        }
+    }
+
+    /// Up to four high inputs.
+    fn some_high_inputs(&mut self, part: &Part) -> Vec<usize> {
+        let high_inputs = high_inputs(part);
+        if high_inputs.is_empty() {
+            return Vec::new();
+        }
+        (0..self.rng.below(5)).map(|_| self.rng.pick(&high_inputs)).collect()
+    }
+
+    /// Counts a given trace and a matching one.
+    fn count_matching(&mut self, part: &Part, given: &[usize], matching: &[usize]) {
+        self.tally.count(MATCHING);
+        let whose = match (has_low_internal(part, given), has_low_internal(part, matching)) {
+            (true, true) => "both",
+            (true, false) => "the given one alone",
+            (false, true) => "the matching one alone",
+            (false, false) => return,
+        };
+        self.tally.count(&format!("{}: a low internal event in {}", MATCHING, whose));
     }
 
     /// Counts a passing part under the prefix by what makes it worth trying.
     fn count_kind(&mut self, prefix: &str, part: &Part) {
-        self.tally.count(&format!("{}: all", prefix));
-        let some_low = traces::traces_up_to(part, 3).iter().any(|trace| !traces::low_events(part, trace).is_empty());
-        if high_input_count(part) > 0 && some_low {
-            self.tally.count(&format!("{}: high inputs, and low events within three steps", prefix));
+        let [all, low_events, quiet_steps, low_internal, misread] = kinds(prefix).map(|(name, _)| name);
+        let traces = traces::traces_up_to(part, 3);
+        self.tally.count(&all);
+        if !high_inputs(part).is_empty() && traces.iter().any(|trace| !traces::low_events(part, trace).is_empty()) {
+            self.tally.count(&low_events);
             if !wrong::passes_without_quiet_steps(part) {
-                self.tally.count(&format!("{}: the same, and quiet steps matter", prefix));
+                self.tally.count(&quiet_steps);
+            }
+            if traces.iter().any(|trace| has_low_internal(part, trace)) {
+                self.tally.count(&low_internal);
+            }
+        }
+        if self.tally.lacks(&misread) && breaks_promise(&as_outputs(part)) {
+            self.tally.count(&misread);
+        }
+    }
+
+    fn lacks_kinds(&self, prefix: &str) -> bool {
+        kinds(prefix).iter().any(|(name, _)| self.tally.lacks(name))
+    }
+
+    fn passing_parts(&mut self) {
+        for _ in 0..20_000 {
+            if !self.lacks_kinds("part") {
+                break;
+            }
+            let mut part = make::small_passing(&mut self.rng);
+            if self.rng.chance(1, 2) {
+                part = make::with_quiet_events_internal(&mut self.rng, &part);
+            }
+            self.must_keep(&part, 40);
+            self.count_kind("part", &part);
+        }
+    }
+
+    /// Joined parts, and racks of three.
+    fn joined_parts(&mut self) {
+        for _ in 0..40_000 {
+            if !self.lacks_kinds("joined") && !self.lacks_kinds("rack of three") {
+                break;
+            }
+            let (a, b) = make::small_joinable_pair(&mut self.rng);
+            let first = joined(&a, &b).unwrap();
+            let matching = self.must_keep(&first, 10);
+            self.count_kind("joined", &first);
+            self.count_shared(&a, &b, &first, &matching);
+            let third = make::third_for(&mut self.rng, &first);
+            if first.state_count() * third.state_count() <= 12 {
+                if let Some(rack) = joined(&first, &third) {
+                    self.must_keep(&rack, 5);
+                    self.count_kind("rack of three", &rack);
+                }
             }
         }
     }
 
-    fn kinds_lacking(&self, prefix: &str) -> bool {
-        self.tally.lacks(&format!("{}: all", prefix))
-            || self.tally.lacks(&format!("{}: high inputs, and low events within three steps", prefix))
-            || self.tally.lacks(&format!("{}: the same, and quiet steps matter", prefix))
+    /// Counts a joined part by its shared events.
+    fn count_shared(&mut self, a: &Part, b: &Part, joined: &Part, matching: &[Vec<usize>]) {
+        if shares(a, b, true) {
+            self.tally.count("joined: a shared high event");
+        }
+        if shares(a, b, false) {
+            self.tally.count("joined: a shared low event");
+        }
+        let shared_low = shared_low_events(a, b, joined);
+        for trace in matching {
+            if trace.iter().any(|e| shared_low.contains(e)) {
+                self.tally.count(SHARED_LOW);
+            }
+        }
+    }
+
+    fn broken_parts(&mut self) {
+        for round in 0..40_000 {
+            let lacks = |rule: u32| self.tally.lacks(&rule_names(rule).0) || self.tally.lacks(&rule_names(rule).1);
+            if !(1..=5).any(lacks) {
+                break;
+            }
+            if let Some(part) = broken(&mut self.rng, round) {
+                self.broken_part(&part);
+            }
+        }
+    }
+
+    fn broken_part(&mut self, part: &Part) {
+        if let Some(broken) = check::first_break(part) {
+            let (tried, found) = rule_names(broken.rule);
+            if self.tally.lacks(&tried) || self.tally.lacks(&found) {
+                self.tally.count(&tried);
+                if breaks_promise(part) {
+                    self.tally.count(&found);
+                }
+            }
+        }
+    }
+
+    /// Parts that a wrong reading would pass.
+    fn misread_parts(&mut self) {
+        for round in 0..200_000 {
+            if !WRONG_READINGS.iter().any(|(reading, _)| self.tally.lacks(&misread_name(reading))) {
+                break;
+            }
+            if let Some(part) = misread(&mut self.rng, round) {
+                self.misread_part(&part);
+            }
+        }
+    }
+
+    fn misread_part(&mut self, part: &Part) {
+        if check::passes(part) {
+            return;
+        }
+        for (reading, passes) in WRONG_READINGS {
+            let name = misread_name(reading);
+            if self.tally.lacks(&name) && passes(part) && breaks_promise(part) {
+                self.tally.count(&name);
+            }
+        }
+    }
+
+    /// Joined with a part that breaks a rule: why a break must stop the join.
+    fn joined_with_broken_parts(&mut self) {
+        for _ in 0..20_000 {
+            if !self.tally.lacks(WITH_BROKEN) {
+                break;
+            }
+            let (a, b) = make::small_joinable_pair(&mut self.rng);
+            let b = make::changed_steps(&mut self.rng, &b);
+            if !check::passes(&b) && breaks_promise(&joined(&a, &b).unwrap()) {
+                self.tally.count(WITH_BROKEN);
+            }
+        }
+        let parity = joined(&examples::parity_with_stop_as_output(), &examples::parity_with_stop_as_input()).unwrap();
+        assert!(breaks_promise(&parity));
     }
 }
 
-/// A broken part: is there a counterexample? What is found is checked.
+/// Is there a counterexample? What is found is checked.
 fn breaks_promise(part: &Part) -> bool {
     let bounded = traces::search(part, bounds_for(part)).counterexample;
     let decided = traces::decide(part, MOST_PAIRS);
@@ -177,6 +391,19 @@ fn broken(rng: &mut Rng, round: usize) -> Option<Part> {
     make::breaking(rng, wanted, n, m)
 }
 
+/// A small part that a wrong reading might pass.
+fn misread(rng: &mut Rng, round: usize) -> Option<Part> {
+    match round % 3 {
+        0 => Some(make::small_random_table(rng)),
+        1 => broken(rng, 0),
+        _ => {
+            let wanted = Wanted::anywhere(rng, 4);
+            let part = make::breaking(rng, wanted, 4, 4)?;
+            Some(make::with_quiet_events_internal(rng, &part))
+        }
+    }
+}
+
 fn seed_from_arguments() -> u64 {
     let arguments: Vec<String> = std::env::args().skip(1).collect();
     match arguments.as_slice() {
@@ -192,123 +419,12 @@ fn seed_from_arguments() -> u64 {
 fn main() {
     let seed = seed_from_arguments();
     println!("promise: seed {}", seed);
-    let mut rng = Rng::new(seed);
-    let mut run = Run { tally: Tally::new(), choices: 0, decided: 0, undecided: 0 };
-    for prefix in ["part", "joined", "rack of three"] {
-        let minimum = if prefix == "rack of three" { 200 } else { 1000 };
-        run.tally.need(&format!("{}: all", prefix), minimum);
-        run.tally.need(&format!("{}: high inputs, and low events within three steps", prefix), minimum);
-        run.tally.need(&format!("{}: the same, and quiet steps matter", prefix), 200);
-    }
-    run.tally.need("joined: a shared high event", 200);
-    run.tally.need("joined: a shared low event", 200);
-    run.tally.need("matching traces checked step by step", 1000);
-    for rule in 1..=5 {
-        run.tally.need(&format!("breaks rule {}: tried", rule), 500);
-        run.tally.need(&format!("breaks rule {}: counterexample found", rule), 20);
-    }
-    for reading in ["high inputs quiet", "incomparable is low", "rank alone"] {
-        run.tally.need(&format!("passes if {}: counterexample found", reading), 20);
-    }
-    run.tally.need("joined with a part that breaks a rule, the other passing: counterexample found", 20);
-
-    // Passing parts.
-    for _ in 0..20_000 {
-        if !run.kinds_lacking("part") {
-            break;
-        }
-        let part = make::small_passing(&mut rng);
-        run.must_keep(&mut rng, &part);
-        run.count_kind("part", &part);
-    }
-
-    // Joined ones, and racks of three.
-    for _ in 0..40_000 {
-        if !run.kinds_lacking("joined") && !run.kinds_lacking("rack of three") {
-            break;
-        }
-        let (a, b) = make::small_joinable_pair(&mut rng);
-        let first = joined(&a, &b).unwrap();
-        run.must_keep(&mut rng, &first);
-        run.count_kind("joined", &first);
-        if shares(&a, &b, true) {
-            run.tally.count("joined: a shared high event");
-        }
-        if shares(&a, &b, false) {
-            run.tally.count("joined: a shared low event");
-        }
-        let third = make::third_for(&mut rng, &first);
-        if first.state_count() * third.state_count() <= 12 {
-            if let Some(rack) = joined(&first, &third) {
-                run.must_keep(&mut rng, &rack);
-                run.count_kind("rack of three", &rack);
-            }
-        }
-    }
-
-    // Parts that break a rule.
-    for round in 0..40_000 {
-        let lacking = (1..=5).any(|rule| {
-            run.tally.lacks(&format!("breaks rule {}: tried", rule))
-                || run.tally.lacks(&format!("breaks rule {}: counterexample found", rule))
-        });
-        if !lacking {
-            break;
-        }
-        let part = broken(&mut rng, round);
-        if let Some(found) = part.as_ref().and_then(check::first_break) {
-            let tried = format!("breaks rule {}: tried", found.rule);
-            let found_name = format!("breaks rule {}: counterexample found", found.rule);
-            if run.tally.lacks(&tried) || run.tally.lacks(&found_name) {
-                run.tally.count(&tried);
-                if breaks_promise(&part.unwrap()) {
-                    run.tally.count(&found_name);
-                }
-            }
-        }
-    }
-
-    // Parts that a wrong reading would pass.
-    for round in 0..20_000 {
-        let part = if round % 2 == 0 {
-            make::small_random_table(&mut rng)
-        } else {
-            let part = make::small_passing(&mut rng);
-            make::changed_steps(&mut rng, &part)
-        };
-        if check::passes(&part) {
-            continue;
-        }
-        let readings = [
-            ("high inputs quiet", wrong::passes_with_high_inputs_quiet(&part)),
-            ("incomparable is low", wrong::passes_with_incomparable_low(&part)),
-            ("rank alone", wrong::passes_by_rank_alone(&part)),
-        ];
-        for (reading, passes) in readings {
-            let name = format!("passes if {}: counterexample found", reading);
-            if passes && run.tally.lacks(&name) && breaks_promise(&part) {
-                run.tally.count(&name);
-            }
-        }
-    }
-
-    // Joined with a part that breaks a rule: why a break must stop the join.
-    let name = "joined with a part that breaks a rule, the other passing: counterexample found";
-    for _ in 0..20_000 {
-        if !run.tally.lacks(name) {
-            break;
-        }
-        let (a, b) = make::small_joinable_pair(&mut rng);
-        let b = make::changed_steps(&mut rng, &b);
-        if check::passes(&b) {
-            continue;
-        }
-        if breaks_promise(&joined(&a, &b).unwrap()) {
-            run.tally.count(name);
-        }
-    }
-    let parity = joined(&examples::parity_with_stop_as_output(), &examples::parity_with_stop_as_input()).unwrap();
-    assert!(breaks_promise(&parity));
+    let mut run = Run { rng: Rng::new(seed), tally: needs(), choices: 0, decided: 0, undecided: 0 };
+    run.passing_parts();
+    run.joined_parts();
+    run.broken_parts();
+    run.misread_parts();
+    run.joined_with_broken_parts();
 
     run.tally.print();
     println!("choices of lists tried on passing parts: {}", run.choices);

@@ -1,9 +1,8 @@
 //! Makes parts that are meant to break a rule.
 
 use super::groupings::{by_first_appearance, grouping, members_of};
-use super::levels::{event, identifiers, observer, random_events, Role, ROLES};
+use super::levels::{event, identifiers, observer, random_events, Role, QUIET_ROLES, ROLES};
 use super::passing::{passing_with, LITTLE_QUIET, SOME_QUIET};
-use crate::check;
 use crate::record::Part;
 use crate::rng::Rng;
 
@@ -58,13 +57,13 @@ pub fn breaking(rng: &mut Rng, wanted: Wanted, n: usize, m: usize) -> Option<Par
     for _ in 0..m {
         roles.push(rng.pick(&ROLES));
     }
-    roles[rng.below(m)] = Role::HighOutput;
+    roles[rng.below(m)] = rng.pick(&QUIET_ROLES);
     roles[e] = match wanted.rule {
         1 => rng.pick(&[Role::LowInput, Role::HighInput]),
         2 => Role::HighInput,
         3 => Role::LowInput,
-        4 => rng.pick(&[Role::HighOutput, Role::HighInternal]),
-        _ => rng.pick(&[Role::LowOutput, Role::LowInternal]),
+        4 => rng.pick(&QUIET_ROLES),
+        _ => Role::LowOutput,
     };
     let mut events = Vec::new();
     for (i, identifier) in identifiers(rng, m).into_iter().enumerate() {
@@ -124,7 +123,7 @@ pub fn breaking(rng: &mut Rng, wanted: Wanted, n: usize, m: usize) -> Option<Par
             part.steps[e][s][t] = true;
             let mut quiet_events = Vec::new();
             for q in 0..m {
-                if check::is_quiet(&part, q) {
+                if part.is_quiet(q) {
                     quiet_events.push(q);
                 }
             }
@@ -208,6 +207,7 @@ pub fn small_random_table(rng: &mut Rng) -> Part {
 #[cfg(test)]
 mod tests {
     use super::*;
+    use crate::check;
 
     #[test]
     fn each_rule_can_be_broken_first() {

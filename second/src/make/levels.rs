@@ -82,19 +82,22 @@ pub fn high_level(rng: &mut Rng, observer: u8) -> u8 {
     }
 }
 
-/// What an event is to the rules.
+/// The kind of an event, and on which side its level is.
 #[derive(Clone, Copy, PartialEq, Eq, Debug)]
 pub enum Role {
     LowInput,
     HighInput,
     LowOutput,
-    LowInternal,
     HighOutput,
+    LowInternal,
     HighInternal,
 }
 
 pub const ROLES: [Role; 6] =
-    [Role::LowInput, Role::HighInput, Role::LowOutput, Role::LowInternal, Role::HighOutput, Role::HighInternal];
+    [Role::LowInput, Role::HighInput, Role::LowOutput, Role::HighOutput, Role::LowInternal, Role::HighInternal];
+
+/// Those whose steps are quiet.
+pub const QUIET_ROLES: [Role; 3] = [Role::HighOutput, Role::LowInternal, Role::HighInternal];
 
 pub fn event(rng: &mut Rng, observer: u8, identifier: u16, role: Role) -> Event {
     let kind = match role {
@@ -141,6 +144,7 @@ pub fn random_events(rng: &mut Rng, observer: u8, count: usize) -> Vec<Event> {
 #[cfg(test)]
 mod tests {
     use super::*;
+    use crate::record::Part;
 
     /// Every level but the bad ones is drawn, rank 0 as often as the others.
     #[test]
@@ -154,6 +158,22 @@ mod tests {
             assert_eq!(drawn[level as usize] == 0, is_mislabelled(level), "{}", level);
         }
         assert!(drawn[0] > 4000, "{}", drawn[0]);
+    }
+
+    #[test]
+    fn events_have_their_roles() {
+        let mut rng = Rng::new(66);
+        for _ in 0..300 {
+            let observer = observer(&mut rng);
+            for role in ROLES {
+                let events = vec![event(&mut rng, observer, 7, role)];
+                let part = Part::without_steps(observer, 0, vec![0], events);
+                assert_eq!(part.is_quiet(0), QUIET_ROLES.contains(&role));
+                assert_eq!(part.is_low_output(0), role == Role::LowOutput);
+                let is_low = matches!(role, Role::LowInput | Role::LowOutput | Role::LowInternal);
+                assert_eq!(part.is_low(0), is_low);
+            }
+        }
     }
 
     #[test]

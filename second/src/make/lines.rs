@@ -1,8 +1,7 @@
 //! Makes parts whose quiet steps form one long line.
 
 use super::groupings::by_first_appearance;
-use super::levels::{event, identifiers, observer, Role};
-use crate::check;
+use super::levels::{event, identifiers, observer, Role, QUIET_ROLES};
 use crate::record::Part;
 use crate::rng::Rng;
 
@@ -22,7 +21,7 @@ pub fn line(rng: &mut Rng, n: usize) -> (Part, Vec<usize>) {
     if across {
         labels[last] = 1;
     }
-    let mut roles = vec![Role::LowOutput, Role::HighOutput, Role::HighInternal];
+    let mut roles = vec![Role::LowOutput, rng.pick(&QUIET_ROLES), rng.pick(&QUIET_ROLES)];
     rng.shuffle(&mut roles);
     let mut events = Vec::new();
     for (i, identifier) in identifiers(rng, 3).into_iter().enumerate() {
@@ -32,7 +31,7 @@ pub fn line(rng: &mut Rng, n: usize) -> (Part, Vec<usize>) {
     let mut quiet_events = Vec::new();
     let mut low = 0;
     for e in 0..3 {
-        if check::is_quiet(&part, e) {
+        if part.is_quiet(e) {
             quiet_events.push(e);
         } else {
             low = e;
@@ -59,7 +58,7 @@ pub fn cut_line(rng: &mut Rng, n: usize) -> Part {
     let (mut part, order) = line(rng, n);
     let i = rng.below(n - 1);
     for e in 0..part.event_count() {
-        if check::is_quiet(&part, e) {
+        if part.is_quiet(e) {
             part.steps[e][order[i]][order[i + 1]] = false;
         }
     }
@@ -69,6 +68,7 @@ pub fn cut_line(rng: &mut Rng, n: usize) -> Part {
 #[cfg(test)]
 mod tests {
     use super::*;
+    use crate::check;
     use crate::wrong;
 
     #[test]

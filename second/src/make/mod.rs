@@ -14,7 +14,8 @@ pub use breaks::{breaking, changed_steps, damaged_out_of_reach, small_random_tab
 pub use damages::{bad_record, damage, label, mangled, random_bytes};
 pub use groupings::{any_grouping, by_first_appearance, grouping};
 pub use levels::{
-    any_level, bad_level, event, high_level, identifiers, low_level, near_level, observer, random_events, Role, ROLES,
+    any_level, bad_level, event, high_level, identifiers, low_level, near_level, observer, random_events, Role,
+    QUIET_ROLES, ROLES,
 };
 pub use lines::{cut_line, line};
 pub use pairs::{bus, joinable_pair, pair, regrouped, rename, small_joinable_pair, third_for, Clash, PairPlan};
@@ -24,5 +25,6 @@ pub use passing::{
 };
 pub use scripts::{calls, capacity_needed, hookup_calls, session, Script};
 pub use shapes::{
-    passing_shaped, shaped, shaped_without_inputs, steps_of_shape, with_near_levels, with_quiet_steps, Shape, SHAPES,
+    passing_shaped, shaped, shaped_without_inputs, steps_of_shape, with_near_levels, with_quiet_events_internal,
+    with_quiet_steps, Shape, SHAPES,
 };

@@ -1,7 +1,7 @@
 //! Makes parts that pass the rules.
 
 use super::groupings::{any_grouping, grouping, members_of};
-use super::levels::{event, identifiers, observer, random_events, Role, ROLES};
+use super::levels::{event, identifiers, observer, random_events, Role, QUIET_ROLES, ROLES};
 use crate::check;
 use crate::record::{Event, Part};
 use crate::rng::Rng;
@@ -30,7 +30,7 @@ fn some_classes(rng: &mut Rng, k: usize) -> Vec<usize> {
 
 /// A passing part with these events and this grouping. First each event gets its classes to lead to from each
 /// class (the quotient); then each state gets steps to states of those classes. In a class with a leader all states
-/// come to the leader by quiet steps, and only the leader needs the steps of outputs and internal events.
+/// come to the leader by quiet steps, and only the leader needs the steps of low outputs and those to other classes.
 pub fn passing_with(rng: &mut Rng, observer: u8, events: &[Event], classes: &[u8], quiet: Quiet) -> Part {
     let n = classes.len();
     let members = members_of(classes);
@@ -39,7 +39,7 @@ pub fn passing_with(rng: &mut Rng, observer: u8, events: &[Event], classes: &[u8
     let mut part = Part::without_steps(observer, start, classes.to_vec(), events.to_vec());
     let mut quiet_events = Vec::new();
     for e in 0..part.event_count() {
-        if check::is_quiet(&part, e) {
+        if part.is_quiet(e) {
             quiet_events.push(e);
         }
     }
@@ -102,7 +102,7 @@ pub fn passing_with(rng: &mut Rng, observer: u8, events: &[Event], classes: &[u8
                 }
             }
         }
-        if part.is_output_or_internal(e) && part.is_low(e) {
+        if part.is_low_output(e) {
             for class in 0..k {
                 if rng.chance(1, 3) {
                     continue;
@@ -161,11 +161,11 @@ pub fn any_passing(rng: &mut Rng) -> Part {
     part
 }
 
-/// A passing part of 8 to 14 states and several classes whose high outputs are meant to matter.
+/// A passing part of 8 to 14 states and several classes whose quiet steps are meant to matter.
 pub fn passing_with_quiet_steps(rng: &mut Rng) -> Part {
     let observer = observer(rng);
     let n = rng.range(8, 14);
-    let mut roles = vec![Role::HighOutput, Role::LowOutput];
+    let mut roles = vec![rng.pick(&QUIET_ROLES), Role::LowOutput];
     for _ in 0..rng.range(1, 4) {
         roles.push(rng.pick(&ROLES));
     }
@@ -183,12 +183,11 @@ pub fn passing_with_quiet_steps(rng: &mut Rng) -> Part {
     part
 }
 
-/// A small passing part with a high input, a low output and a high output, for brute force.
+/// A small passing part with a high input, a low output and a quiet event, for brute force.
 pub fn small_passing(rng: &mut Rng) -> Part {
     let observer = observer(rng);
     let n = rng.range(2, 5);
-    let mut roles = vec![Role::HighInput, rng.pick(&[Role::LowOutput, Role::LowInternal])];
-    roles.push(rng.pick(&[Role::HighOutput, Role::HighInternal]));
+    let mut roles = vec![Role::HighInput, Role::LowOutput, rng.pick(&QUIET_ROLES)];
     for _ in 0..rng.range(0, 2) {
         roles.push(rng.pick(&ROLES));
     }

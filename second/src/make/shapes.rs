@@ -1,8 +1,7 @@
 //! Makes parts by the shape of their quiet steps.
 
 use super::groupings::any_grouping;
-use super::levels::{any_level, event, identifiers, near_level, observer, Role, ROLES};
-use crate::check;
+use super::levels::{any_level, event, identifiers, near_level, observer, Role, QUIET_ROLES, ROLES};
 use crate::record::Part;
 use crate::rng::Rng;
 
@@ -123,7 +122,7 @@ pub fn with_quiet_steps(rng: &mut Rng, table: &[Vec<bool>], m: usize) -> Part {
     let must_be_quiet = if m > 0 { rng.below(m) } else { 0 };
     for (i, identifier) in identifiers(rng, m).into_iter().enumerate() {
         let wants_quiet = i == must_be_quiet || rng.chance(1, 3);
-        let role = if wants_quiet { rng.pick(&[Role::HighOutput, Role::HighInternal]) } else { rng.pick(&ROLES) };
+        let role = if wants_quiet { rng.pick(&QUIET_ROLES) } else { rng.pick(&ROLES) };
         events.push(event(rng, observer, identifier, role));
     }
     let start = rng.below(n);
@@ -131,7 +130,7 @@ pub fn with_quiet_steps(rng: &mut Rng, table: &[Vec<bool>], m: usize) -> Part {
     let mut part = Part::without_steps(observer, start, classes, events);
     let mut quiet_events = Vec::new();
     for e in 0..m {
-        if check::is_quiet(&part, e) {
+        if part.is_quiet(e) {
             quiet_events.push(e);
         } else {
             let other = rng.pick(&SHAPES);
@@ -164,7 +163,7 @@ pub fn passing_shaped(rng: &mut Rng, shape: Shape, n: usize, m: usize, one_class
     let mut part = shaped(rng, shape, n, m);
     part.classes = if one_class { vec![0; n] } else { (0..n as u8).collect() };
     for e in 0..m {
-        if check::is_quiet(&part, e) {
+        if part.is_quiet(e) {
             continue;
         }
         let stays = part.is_input(e) && part.is_high(e) && !one_class;
@@ -192,7 +191,19 @@ pub fn shaped_without_inputs(rng: &mut Rng, shape: Shape, n: usize, m: usize) ->
     part
 }
 
-/// The same part with another observer and levels near it: equal, or one rank or compartment away. Which events are
+/// The same part with most of its quiet events made internal, of either level; its quiet steps stay as they are.
+pub fn with_quiet_events_internal(rng: &mut Rng, part: &Part) -> Part {
+    let mut changed = part.clone();
+    for e in 0..part.event_count() {
+        if part.is_quiet(e) && rng.chance(3, 4) {
+            let role = rng.pick(&[Role::LowInternal, Role::HighInternal]);
+            changed.events[e] = event(rng, part.observer, part.events[e].identifier, role);
+        }
+    }
+    changed
+}
+
+/// The same part with another observer and levels near it: equal, or one rank or compartment away. Which outputs are
 /// quiet changes with them.
 pub fn with_near_levels(rng: &mut Rng, part: &Part) -> Part {
     let mut changed = part.clone();
@@ -210,6 +221,7 @@ pub fn with_near_levels(rng: &mut Rng, part: &Part) -> Part {
 #[cfg(test)]
 mod tests {
     use super::*;
+    use crate::check;
 
     #[test]
     fn parts_have_their_quiet_steps() {
@@ -238,7 +250,7 @@ mod tests {
     fn without_inputs_rules_4_and_5_alone_are_broken() {
         let mut rng = Rng::new(60);
         let mut broken = [0; 6];
-        for round in 0..600 {
+        for round in 0..1000 {
             let n = rng.range(1, 9);
             let m = rng.range(0, 6);
             let part = shaped_without_inputs(&mut rng, SHAPES[round % SHAPES.len()], n, m);
@@ -256,13 +268,23 @@ mod tests {
         let mut spread = 0;
         for _ in 0..100 {
             let part = shaped(&mut rng, Shape::Line, 12, 6);
-            let events =
-                (0..6).filter(|&e| check::is_quiet(&part, e) && part.steps[e].iter().any(|row| row.contains(&true)));
+            let events = (0..6).filter(|&e| part.is_quiet(e) && part.steps[e].iter().any(|row| row.contains(&true)));
             if events.count() >= 3 {
                 spread += 1;
             }
         }
         assert!(spread > 30, "{}", spread);
+    }
+
+    #[test]
+    fn internal_events_take_the_same_steps() {
+        let mut rng = Rng::new(67);
+        for _ in 0..100 {
+            let part = shaped(&mut rng, Shape::Some, 8, 5);
+            let other = with_quiet_events_internal(&mut rng, &part);
+            assert_eq!(check::quiet_steps(&part), check::quiet_steps(&other));
+            assert_eq!(check::first_break(&part), check::first_break(&other));
+        }
     }
 
     #[test]

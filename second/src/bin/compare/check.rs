@@ -1,5 +1,6 @@
 //! Compares hookup_check: the number, and that nothing is written.
 
+use crate::internal;
 use crate::label;
 use crate::product::{self, Lent};
 use crate::report::differ;
@@ -24,6 +25,7 @@ pub fn need(tally: &mut Tally) {
         tally.need(&twice_damaged_name(reasons), LEAST);
     }
     label::need(tally, "check:", LEAST);
+    internal::need(tally, "check:", LEAST);
     tally.need("check: mangled record", LEAST_OF_MAIN);
     tally.need("check: random bytes", LEAST_OF_MAIN);
     tally.need("check: more than 65536 bytes", LEAST);
@@ -42,8 +44,8 @@ fn twice_damaged_name((earlier, later): Reasons) -> String {
 
 impl Comparison {
     /// One call of hookup_check: its number, and that it wrote nothing.
-    fn check_number(&mut self, bytes: &[u8]) {
-        let expected = check::number(check::check(bytes));
+    fn check_number(&mut self, bytes: &[u8], verdict: Verdict) {
+        let expected = check::number(verdict);
         let lent = Lent::new(&mut self.rng, bytes);
         self.count_call("hookup_check");
         let got = product::check(&lent);
@@ -59,11 +61,13 @@ impl Comparison {
     }
 
     fn check_record(&mut self, bytes: &[u8]) {
-        self.check_number(bytes);
-        for name in category::of_record(bytes) {
+        let verdict = check::check(bytes);
+        self.check_number(bytes, verdict);
+        for name in category::of_verdict(bytes, verdict) {
             self.tally.count_if_known(&format!("check: {}", name));
         }
         self.count_labels("check:", bytes);
+        self.count_internal("check:", bytes, verdict);
     }
 
     pub fn all_checks(&mut self) {
@@ -75,6 +79,9 @@ impl Comparison {
             self.check_record(&bytes);
         }
         for bytes in cases::mislabelled(&mut self.rng, LEAST) {
+            self.check_record(&bytes);
+        }
+        for bytes in cases::internal(&mut self.rng, LEAST) {
             self.check_record(&bytes);
         }
         for bytes in cases::breaking(&mut self.rng, LEAST) {
@@ -122,7 +129,7 @@ impl Comparison {
             self.tally.count("check: more than 65536 bytes");
         }
         for _ in 0..2 * LEAST {
-            self.check_number(&[]);
+            self.check_number(&[], Verdict::Refused(1));
         }
     }
 

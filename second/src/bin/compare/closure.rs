@@ -1,5 +1,5 @@
-//! Compares hookup_closure: the number, every byte of the output buffer, and that nothing else is written. Where all
-//! small tables are tried, hookup_explain is compared on them too.
+//! Compares hookup_closure: the number, every byte of the output buffer, and that nothing else is written. On all small
+//! tables, and on joined parts, hookup_explain is compared too.
 
 use crate::label;
 use crate::product::{self, Lent};
@@ -8,15 +8,20 @@ use crate::{all_examples, Comparison, LEAST, LEAST_OF_MAIN, MOST_TRIES};
 use second::cases;
 use second::category::Tally;
 use second::category_closure::{self, LONGEST};
+use second::category_internal::{self, add_to_a_reach};
+use second::category_join::shared_low_events;
+use second::check;
 use second::closure::{self, PIECE};
 use second::examples;
 use second::explain::EXPLANATION;
+use second::join;
 use second::make::{self, Shape, SHAPES};
 use second::record::{self, Part};
 use second::replay::hex;
 
 const UP_TO_3_STATES: &str = "closure and explain: each table of quiet steps of up to 3 states";
 const OF_4_STATES: &str = "closure and explain: each table of quiet steps of 4 states, none that stays";
+const JOINED: &str = "closure and explain: joined part, a shared low event adds to a quiet reach";
 
 pub fn need(tally: &mut Tally) {
     for name in category_closure::names() {
@@ -29,6 +34,7 @@ pub fn need(tally: &mut Tally) {
     label::need(tally, "closure:", LEAST);
     tally.need(UP_TO_3_STATES, 2 + 16 + 512);
     tally.need(OF_4_STATES, 4096);
+    tally.need(JOINED, LEAST);
     tally.need("closure: record cut at each length", LEAST);
     tally.need("closure: record with each bit changed", LEAST_OF_MAIN);
     tally.need("closure: record at a null pointer", LEAST);
@@ -68,10 +74,14 @@ impl Comparison {
             differ("hookup_closure wrote to the record", &inputs, "unchanged", "changed");
         }
 
-        for name in category_closure::of_closure(bytes, room, answer) {
+        let verdict = check::check(bytes);
+        for name in category_closure::of_closure(bytes, room, answer, verdict) {
             self.tally.count(&format!("closure: {}", name));
         }
         self.count_labels("closure:", bytes);
+        if let Some(judged) = category_internal::judged(bytes, verdict) {
+            self.still_passes(bytes, &judged);
+        }
         if lent.is_null() {
             self.tally.count("closure: record at a null pointer");
         }
@@ -126,6 +136,7 @@ impl Comparison {
         self.each_small_table();
         self.closures_by_shape();
         self.closures_by_rule();
+        self.closures_of_joined_parts();
         self.closures_of_refused_records();
     }
 
@@ -171,6 +182,20 @@ impl Comparison {
         }
         for bytes in cases::breaking(&mut self.rng, LEAST / 3) {
             self.close_record(&bytes);
+        }
+    }
+
+    /// Joined parts, in which shared events are quiet; their explanations are compared too.
+    fn closures_of_joined_parts(&mut self) {
+        for _ in 0..4 * LEAST {
+            let (a, b) = make::joinable_pair(&mut self.rng);
+            let bytes = join::joined_record(&a, &b);
+            let joined = record::read(&bytes).unwrap();
+            self.close(&bytes, PIECE * joined.state_count());
+            self.explain(&bytes, EXPLANATION);
+            if add_to_a_reach(&joined, &check::quiet_reaches(&joined), &shared_low_events(&a, &b, &joined)) {
+                self.tally.count(JOINED);
+            }
         }
     }
 

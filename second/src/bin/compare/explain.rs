@@ -1,22 +1,25 @@
 //! Compares hookup_explain: the number, every byte of the output buffer, and that nothing else is written. Its number is
 //! also held against hookup_check's.
 
+use crate::internal;
 use crate::label;
 use crate::product::{self, Lent};
 use crate::report::differ;
 use crate::{all_examples, Comparison, LEAST, LEAST_OF_MAIN, MOST_TRIES};
 use second::cases;
 use second::category::Tally;
-use second::category_explain;
-use second::check;
+use second::category_explain::{self, break_of};
+use second::check::{self, Verdict};
 use second::examples;
-use second::explain::{self, EXPLANATION};
-use second::make::{self, Role, Shape, Wanted, SHAPES};
+use second::explain::{self, ExplainAnswer, EXPLANATION};
+use second::make::{self, Role, Shape, Wanted, QUIET_ROLES, ROLES, SHAPES};
 use second::record::{self, Part};
 use second::replay::hex;
 
-const WITH_EACH_GROUPING: &str = "explain: each table of quiet steps of up to 3 states, with each grouping";
-const PAIRS_OF_TABLES: &str = "explain: each two tables of 2 states, one of quiet steps, with each grouping";
+const WITH_EACH_GROUPING: &str =
+    "explain: each table of quiet steps of up to 3 states, with each grouping, by each quiet event";
+const PAIRS_OF_TABLES: &str =
+    "explain: each two tables of 2 states, with each grouping, by each quiet event and each event";
 
 /// The groupings of one, two and three states.
 const GROUPINGS: [&[&[u8]]; 3] =
@@ -31,8 +34,9 @@ pub fn need(tally: &mut Tally) {
         tally.need(&twice_damaged_name(earlier), LEAST);
     }
     label::need(tally, "explain:", LEAST);
-    tally.need(WITH_EACH_GROUPING, 2 + 2 * 16 + 5 * 512);
-    tally.need(PAIRS_OF_TABLES, 4 * 16 * 16 * 2);
+    internal::need(tally, "explain:", LEAST);
+    tally.need(WITH_EACH_GROUPING, 3 * (2 + 2 * 16 + 5 * 512));
+    tally.need(PAIRS_OF_TABLES, 3 * 6 * 16 * 16 * 2);
     tally.need("explain: record cut at each length", LEAST);
     tally.need("explain: record with each bit changed", LEAST_OF_MAIN);
     tally.need("explain: record at a null pointer", LEAST);
@@ -81,6 +85,7 @@ impl Comparison {
             self.tally.count(&format!("explain: {}", name));
         }
         self.count_labels("explain:", bytes);
+        self.count_internal("explain:", bytes, verdict_of(bytes, answer));
         if lent.is_null() {
             self.tally.count("explain: record at a null pointer");
         }
@@ -127,28 +132,32 @@ impl Comparison {
         self.explanations_of_refused_records();
     }
 
-    /// Every table of quiet steps of up to three states with every grouping, as the steps of one quiet event.
+    /// Every table of quiet steps of up to three states with every grouping, as the steps of one quiet event: a high
+    /// output, a low internal event and a high one.
     fn each_small_grouped_table(&mut self) {
-        for n in 1..=3 {
-            for chosen in 0..1usize << (n * n) {
-                for classes in GROUPINGS[n - 1] {
-                    let role = self.rng.pick(&[Role::HighOutput, Role::HighInternal]);
-                    let part = self.part_of_tables(classes, &[(role, chosen)]);
-                    self.explain_with_room(&part);
-                    self.tally.count(WITH_EACH_GROUPING);
+        for role in QUIET_ROLES {
+            for n in 1..=3 {
+                for chosen in 0..1usize << (n * n) {
+                    for classes in GROUPINGS[n - 1] {
+                        let part = self.part_of_tables(classes, &[(role, chosen)]);
+                        self.explain_with_room(&part);
+                        self.tally.count(WITH_EACH_GROUPING);
+                    }
                 }
             }
         }
     }
 
-    /// Every two tables of two states, one of a quiet event and one of any other, with both groupings.
+    /// Every two tables of two states, one of each quiet event and one of each event, with both groupings.
     fn each_two_small_tables(&mut self) {
-        for other in [Role::LowInput, Role::HighInput, Role::LowOutput, Role::LowInternal] {
-            for chosen in 0..256 {
-                for classes in GROUPINGS[1] {
-                    let part = self.part_of_tables(classes, &[(Role::HighOutput, chosen % 16), (other, chosen / 16)]);
-                    self.explain_with_room(&part);
-                    self.tally.count(PAIRS_OF_TABLES);
+        for quiet in QUIET_ROLES {
+            for other in ROLES {
+                for chosen in 0..256 {
+                    for classes in GROUPINGS[1] {
+                        let part = self.part_of_tables(classes, &[(quiet, chosen % 16), (other, chosen / 16)]);
+                        self.explain_with_room(&part);
+                        self.tally.count(PAIRS_OF_TABLES);
+                    }
                 }
             }
         }
@@ -211,7 +220,7 @@ impl Comparison {
         let one_class = self.rng.chance(1, 2);
         let m = self.rng.range(1, 3);
         let mut part = make::passing_shaped(&mut self.rng, Shape::Empty, n, m, one_class);
-        let quiet = (0..m).find(|&e| check::is_quiet(&part, e)).unwrap();
+        let quiet = (0..m).find(|&e| part.is_quiet(e)).unwrap();
         for _ in 0..self.rng.range(1, n) {
             let s = self.rng.below(n);
             part.steps[quiet][s][s] = true;
@@ -286,6 +295,9 @@ impl Comparison {
         for bytes in cases::mislabelled(&mut self.rng, LEAST) {
             self.explain_record(&bytes);
         }
+        for bytes in cases::internal(&mut self.rng, LEAST / 4) {
+            self.explain(&bytes, EXPLANATION);
+        }
         for _ in 0..MOST_TRIES {
             if !cases::earlier_refusals().iter().any(|&earlier| self.tally.lacks(&twice_damaged_name(earlier))) {
                 break;
@@ -319,6 +331,18 @@ impl Comparison {
                 self.tally.count("explain: record with each bit changed");
             }
         }
+    }
+}
+
+/// Check's verdict on the record, by the answer where it tells.
+fn verdict_of(bytes: &[u8], answer: ExplainAnswer) -> Verdict {
+    match answer {
+        ExplainAnswer::Refused(15) => check::check(bytes),
+        ExplainAnswer::Refused(number) => Verdict::Refused(number),
+        ExplainAnswer::Explained(explanation) => match break_of(&explanation) {
+            None => Verdict::Pass,
+            Some(found) => Verdict::Breaks(found),
+        },
     }
 }
 

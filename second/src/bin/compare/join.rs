@@ -1,5 +1,6 @@
 //! Compares hookup_join: the number, every byte of the output buffer, and that nothing else is written.
 
+use crate::internal;
 use crate::label;
 use crate::product::{self, Lent};
 use crate::report::differ;
@@ -7,6 +8,7 @@ use crate::{all_examples, Comparison, LEAST, LEAST_OF_MAIN};
 use second::cases;
 use second::category::Tally;
 use second::category_join;
+use second::check::{self, Verdict};
 use second::examples;
 use second::join::{self, JoinAnswer, Side};
 use second::make::{self, Clash, PairPlan};
@@ -24,6 +26,17 @@ pub fn need(tally: &mut Tally) {
     tally.need("join: joined, A and B at one address", LEAST);
     label::need(tally, "join: A", LEAST);
     label::need(tally, "join: B", LEAST);
+    internal::need(tally, "join: A", LEAST);
+    internal::need(tally, "join: B", LEAST);
+}
+
+/// Check's verdicts on A and B, by the answer; none on B where A stopped the join.
+fn verdicts_of(answer: JoinAnswer) -> (Verdict, Option<Verdict>) {
+    match answer {
+        JoinAnswer::Stopped(Side::A, verdict) => (verdict, None),
+        JoinAnswer::Stopped(Side::B, verdict) => (Verdict::Pass, Some(verdict)),
+        _ => (Verdict::Pass, Some(Verdict::Pass)),
+    }
 }
 
 impl Comparison {
@@ -61,12 +74,27 @@ impl Comparison {
         for name in category_join::of_join(a, b, room, answer) {
             self.tally.count(&format!("join: {}", name));
         }
+        let (verdict_a, verdict_b) = verdicts_of(answer);
         self.count_labels("join: A", a);
-        if !matches!(answer, JoinAnswer::Stopped(Side::A, _)) {
+        self.count_internal("join: A", a, verdict_a);
+        if let Some(verdict) = verdict_b {
             self.count_labels("join: B", b);
+            self.count_internal("join: B", b, verdict);
+        }
+        if let JoinAnswer::Length(length) = answer {
+            self.joined_passes(&inputs, &expected_out[..length]);
         }
         if one_address && expected == 0 {
             self.tally.count("join: joined, A and B at one address");
+        }
+    }
+
+    /// The joined record passes, by the second checker and by the product.
+    fn joined_passes(&mut self, inputs: &[(&str, &[u8])], joined: &[u8]) {
+        let expected = check::number(check::check(joined));
+        let got = product::check(&Lent::new(&mut self.rng, joined));
+        if expected != 0 || got != 0 {
+            differ("hookup_check of the joined record", inputs, &expected.to_string(), &got.to_string());
         }
     }
 
@@ -123,7 +151,7 @@ impl Comparison {
             let (a, b) = make::joinable_pair(&mut self.rng);
             self.join_parts(&a, &b);
         }
-        for round in 0..20 * LEAST {
+        for round in 0..12 * LEAST {
             let (na, nb) = [(64, 1), (1, 64), (8, 8), (1, 1)][round % 4];
             let mut plan = self.plan(na, nb);
             if na == 1 && nb == 1 && self.rng.chance(1, 2) {
@@ -227,8 +255,10 @@ impl Comparison {
             let other = bad[self.rng.below(bad.len())].clone();
             self.join_pair(bytes, &other, room);
         }
-        // A or B with bad levels, the other passing.
-        for bytes in cases::mislabelled(&mut self.rng, LEAST) {
+        // A or B with bad levels or with internal events, the other passing.
+        let mut records = cases::mislabelled(&mut self.rng, LEAST);
+        records.extend(cases::internal(&mut self.rng, LEAST));
+        for bytes in records {
             let good = record::write(&make::any_passing(&mut self.rng));
             let room = self.rng.pick(&[0, 100, LONGEST]);
             self.join_pair(&bytes, &good, room);

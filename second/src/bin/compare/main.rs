@@ -8,6 +8,7 @@
 mod check;
 mod closure;
 mod explain;
+mod internal;
 mod join;
 mod label;
 mod product;
@@ -61,7 +62,7 @@ impl Comparison {
     }
 }
 
-/// Document 01's examples of records, starred or not.
+/// Document 01's examples of records, starred or not, and those for request i.
 fn all_examples() -> Vec<Vec<u8>> {
     vec![
         examples::p(),
@@ -69,7 +70,9 @@ fn all_examples() -> Vec<Vec<u8>> {
         examples::p_event_1_stepless_in_1(),
         examples::p_event_2_stepless_in_1(),
         examples::p_with_event_2_internal(),
+        examples::p_mute_with_event_2_internal(),
         examples::t_high_output(),
+        examples::t_low_internal(),
         examples::t_low_input(),
         examples::q(),
         examples::z(),

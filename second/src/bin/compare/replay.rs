@@ -1,20 +1,20 @@
 //! Compares the program `replay`: its whole output, a process for each script. Loads and sessions.
 
+use crate::internal;
 use crate::label;
 use crate::product::run_program;
 use crate::report::{differ, shown};
 use crate::{all_examples, Comparison, LEAST, LEAST_OF_MAIN};
-use second::answer::Answer;
 use second::cases;
 use second::category::Tally;
-use second::category_replay;
+use second::category_replay::{self, verdict_of_load};
 use second::examples;
 use second::join;
 use second::make::{self, Script};
 use second::record;
 use second::replay::{self, hex, Effect, Operation};
 
-/// Begins the name of each category of levels.
+/// Begins the name of each category of levels and of internal events.
 const LOAD: &str = "replay: load,";
 
 pub fn need(tally: &mut Tally) {
@@ -23,6 +23,7 @@ pub fn need(tally: &mut Tally) {
         tally.need(&format!("replay: {}", name), least);
     }
     label::need(tally, LOAD, LEAST);
+    internal::need(tally, LOAD, LEAST);
 }
 
 impl Comparison {
@@ -49,9 +50,10 @@ impl Comparison {
             self.tally.count_if_known(&format!("replay: {}", name));
         }
         for done in &expected.done {
-            if let Operation::Load(record) = &done.operation {
-                if done.effect != Effect::Answer(Answer::Refused(12)) {
+            if let (Operation::Load(record), Effect::Answer(answer)) = (&done.operation, &done.effect) {
+                if let Some(verdict) = verdict_of_load(*answer) {
                     self.count_labels(LOAD, record);
+                    self.count_internal(LOAD, record, verdict);
                 }
             }
         }
@@ -116,6 +118,7 @@ impl Comparison {
     pub fn all_replays(&mut self, path: &str) {
         let refused = cases::refused(&mut self.rng, LEAST);
         let mislabelled = cases::mislabelled(&mut self.rng, LEAST + LEAST / 4);
+        let internal = cases::internal(&mut self.rng, LEAST);
         let breaking = cases::breaking(&mut self.rng, LEAST);
         let passing = cases::passing(&mut self.rng, LEAST);
         let quiet = cases::quiet(&mut self.rng, LEAST_OF_MAIN);
@@ -123,6 +126,7 @@ impl Comparison {
             self.replay_loads(path, &all_examples(), capacity);
             self.replay_loads(path, &refused, capacity);
             self.replay_loads(path, &mislabelled, capacity);
+            self.replay_loads(path, &internal, capacity);
             self.replay_loads(path, &breaking, capacity);
         }
         self.replay_uncleared(path, &mislabelled);

@@ -1,5 +1,6 @@
 //! Compares the program `verdict`: its whole output, a process for each record.
 
+use crate::internal;
 use crate::label;
 use crate::product::run_program;
 use crate::report::differ;
@@ -10,8 +11,8 @@ use second::check;
 use second::make;
 use second::record;
 
-/// The least number of cases of a category of levels; each case is a process.
-const LEAST_OF_LABELS: usize = LEAST / 4;
+/// The least number of cases of a category of levels or of internal events; each case is a process.
+const LEAST_OF_EVENTS: usize = LEAST / 4;
 
 pub fn need(tally: &mut Tally) {
     for name in category::refused_names().iter().chain(&category::break_names()).chain(&category::pass_names()) {
@@ -19,7 +20,8 @@ pub fn need(tally: &mut Tally) {
     }
     tally.need(&format!("verdict: {}", category::QUIET_IGNORED), LEAST);
     tally.need(&format!("verdict: {}", category::QUIET_REMOVED), LEAST);
-    label::need(tally, "verdict:", LEAST_OF_LABELS);
+    label::need(tally, "verdict:", LEAST_OF_EVENTS);
+    internal::need(tally, "verdict:", LEAST_OF_EVENTS);
     tally.need("verdict: empty input", LEAST);
     tally.need("verdict: 65536 bytes", LEAST);
     tally.need("verdict: longer, 65536 bytes judged", LEAST);
@@ -28,7 +30,8 @@ pub fn need(tally: &mut Tally) {
 
 impl Comparison {
     fn verdict_of(&mut self, path: &str, input: &[u8]) {
-        let expected = format!("{}\n", check::verdict_line(input));
+        let verdict = check::verdict_on(input);
+        let expected = format!("{}\n", check::line_of(verdict));
         self.count_call("verdict");
         match run_program(path, input) {
             Err(error) => differ("verdict", &[("input", input)], expected.trim_end(), &error),
@@ -51,17 +54,19 @@ impl Comparison {
                 self.tally.count("verdict: longer, length field fits the first 65536 bytes");
             }
         } else {
-            for name in category::of_record(input) {
+            for name in category::of_verdict(input, verdict) {
                 self.tally.count_if_known(&format!("verdict: {}", name));
             }
             self.count_labels("verdict:", input);
+            self.count_internal("verdict:", input, verdict);
         }
     }
 
     pub fn all_verdicts(&mut self, path: &str) {
         let mut inputs = all_examples();
         inputs.extend(cases::refused(&mut self.rng, LEAST));
-        inputs.extend(cases::mislabelled(&mut self.rng, LEAST_OF_LABELS));
+        inputs.extend(cases::mislabelled(&mut self.rng, LEAST_OF_EVENTS));
+        inputs.extend(cases::internal(&mut self.rng, LEAST_OF_EVENTS));
         inputs.extend(cases::breaking(&mut self.rng, LEAST));
         inputs.extend(cases::passing(&mut self.rng, LEAST));
         inputs.extend(cases::quiet(&mut self.rng, LEAST));

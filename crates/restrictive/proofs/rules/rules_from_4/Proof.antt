@@ -15,8 +15,8 @@ use Rattle.restrictive.proofs.rules.rules_from_4.Tie as tie
 element-copy-out-silent : tie.Need-element-copy-out-silent
 element-copy-out-silent c = search needs
 
-element-copy-out-actions : tie.Need-element-copy-out-actions
-element-copy-out-actions c = search needs
+element-copy-out-outputs : tie.Need-element-copy-out-outputs
+element-copy-out-outputs c = search needs
 
 -- ---- without silent events
 
@@ -69,5 +69,5 @@ returns-2 c =
     (made .closures .ensures .sizes ∙ closure-total _ _ _ (pre .1 .0 3 (omega arith)))
 
 pub rules-from-4-spec : {M : Type 1} → statement M
-rules-from-4-spec = tie.close (tie.spec element-copy-out-silent element-copy-out-actions by-event-requires returns
+rules-from-4-spec = tie.close (tie.spec element-copy-out-silent element-copy-out-outputs by-event-requires returns
     closures-requires with-closures-requires returns-2)

@@ -16,8 +16,8 @@ use Rattle.restrictive.proofs.rules.with_closures.Tie as tie
 element-copy-out-silent : tie.Need-element-copy-out-silent
 element-copy-out-silent c = search needs
 
-element-copy-out-actions : tie.Need-element-copy-out-actions
-element-copy-out-actions c = search needs
+element-copy-out-outputs : tie.Need-element-copy-out-outputs
+element-copy-out-outputs c = search needs
 
 gather-each-requires : tie.Need-gather-each-requires
 gather-each-requires c κs = search needs
@@ -79,5 +79,5 @@ returns-2 c =
     (nothing-more _ 3 _ (four .rule-4 .ensures) (start .pre .1 .1 .1 .1) (told .enum-told2 .given .1))
 
 pub with-closures-spec : {M : Type 1} → statement M
-with-closures-spec = tie.close (tie.spec element-copy-out-silent element-copy-out-actions gather-each-requires
+with-closures-spec = tie.close (tie.spec element-copy-out-silent element-copy-out-outputs gather-each-requires
     rule-4-requires enum-told returns enum-told-2 by-event-requires returns-2)
