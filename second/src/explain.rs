@@ -147,8 +147,8 @@ mod tests {
         check_and_count(bytes).1
     }
 
-    /// P, Q and Z have no quiet event, or one that stays, so each state is taken up once. In T with a high output or a low
-    /// internal event the quiet reaches are 0 and 2, 1, 2.
+    /// P, Q and Z have no quiet event, or one that stays, so each state is taken up once. In T with a high output or a
+    /// low internal event the quiet reaches are 0 and 2, 1, 2.
     #[test]
     fn counts_of_the_examples() {
         assert_eq!(count(&examples::p()), 2);

@@ -89,7 +89,7 @@ impl Comparison {
 
     /// Hookups refused with 9, 10, 11 and 13, on shelves with room and on full ones.
     pub fn replay_refused_pairs(&mut self, path: &str) {
-        for round in 0..6 * LEAST {
+        for round in 0..4 * LEAST {
             let mut plan = self.plan(1, 1);
             let (na, nb) = match round % 3 {
                 0 => (64, 2),
