@@ -2,8 +2,8 @@
 -- its parts say.
 use Prim.Native.Nat.{ℕ}
 use mathlib.Core.Path.{_≡_}
-use mathlib.Core.Bool.{Bool, true, false, not, _&&_}
-use mathlib.Core.Logic.{_↔_}
+use mathlib.Core.Bool.{Bool, true, false, not, _||_, _&&_}
+use mathlib.Core.Logic.{_↔_, _⊎_, inl, inr, ⊎-elim}
 use borrow.Author.Tests.{eq-eqb}
 use lib.Dec.{T, T-not, not-T, eqb, eqb→eq}
 use Rattle.bounded.specs.Search.{Below, any}
@@ -20,6 +20,10 @@ pub and-three-iff : {A B C : Type 0} (a b c : Bool) → T a ↔ A → T b ↔ B 
 and-three-iff a b c p q r =
     let w = and-iff (a && b) c (and-iff a b p q) r in
     (λ t. let ((x, y), z) = w .0 t in (x, y, z), λ (x, y, z). w .1 ((x, y), z))
+
+pub or-iff : {A B : Type 0} (a b : Bool) → T a ↔ A → T b ↔ B → T (a || b) ↔ (A ⊎ B)
+or-iff true b p q = (λ t. inl (p .0 tt), λ w. tt)
+or-iff false b p q = (λ t. inr (q .0 t), ⊎-elim (λ x. absurd (p .1 x)) (q .1))
 
 pub not-iff : {A : Type 0} (a : Bool) → T a ↔ A → T (not a) ↔ (A → ⊥)
 not-iff a p = (λ t x. T-not a t (p .1 x), λ n. not-T a (λ t. n (p .0 t)))

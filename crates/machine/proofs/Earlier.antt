@@ -5,14 +5,13 @@ use Prim.Native.Nat.{ℕ}
 use mathlib.Core.Path.{_≡_, refl, sym, ap, _∙_, subst}
 use mathlib.Core.Bool.{Bool, true, false}
 use mathlib.Core.Logic.{_⊎_, inl, inr, ⊎-elim}
-use lib.Dec.{T}
 use Rattle.machine.specs.Machine.{input, output, internal, Event, absent, event, Machine, Observation}
-use Rattle.machine.specs.Roles.{Role, silent, low-output, at-level, role-of, role, is-input, is-low-input}
-use Rattle.machine.specs.Roles.{is-high-input, is-silent, is-low-output}
+use Rattle.machine.specs.Roles.{Role, low-input, low-output, silent, at-level, role-of, role, IsInput}
 use Rattle.machine.specs.Silent.{Silent}
 use Rattle.machine.specs.Rules.{rule-1, rule-2, rule-3, rule-4, rule-5, Around, Answers, Restrictive}
 use Rattle.machine.specs.Earlier.{as-output, EarlierRestrictive}
-use Rattle.machine.proofs.Silent.{silent-one, silent-answer, around-silent}
+use Rattle.machine.proofs.Silent.{silent-one, silent-answer, answer-silent}
+use Rattle.machine.proofs.Traces.{Sounds}
 
 -- ---- roles
 
@@ -32,19 +31,23 @@ unseen-of is-low (event internal l) = go (is-low l)
     go true = not-seen
     go false = as-before
 
--- Where a role passes a test that `silent` does not pass, the role in the earlier reading passes it too.
-seen-alike : (f : Role → Bool) → (T (f silent) → ⊥) → {p r : Role} → Unseen p r → T (f r) → T (f p)
-seen-alike f n as-before h = h
-seen-alike f n not-seen h = absurd (n h)
+-- A role that is not silent was the same; a silent one was silent or a low output.
+seen-alike : {x p r : Role} → Sounds x → Unseen p r → r ≡ x → p ≡ x
+seen-alike n as-before h = h
+seen-alike n not-seen h = absurd (subst Sounds (sym h) n)
 
--- What was silent is silent; what is silent was silent or a low output.
-silent-still : {p r : Role} → Unseen p r → T (is-silent p) → T (is-silent r)
-silent-still as-before h = h
-silent-still not-seen h = absurd h
+input-alike : {p r : Role} → Unseen p r → IsInput r → IsInput p
+input-alike u (inl h) = inl (seen-alike tt u h)
+input-alike u (inr h) = inr (seen-alike tt u h)
 
-silent-was : {p r : Role} → Unseen p r → T (is-silent r) → T (is-silent p) ⊎ T (is-low-output p)
+silent-was : {p r : Role} → Unseen p r → r ≡ silent → (p ≡ silent) ⊎ (p ≡ low-output)
 silent-was as-before h = inl h
-silent-was not-seen h = inr tt
+silent-was not-seen h = inr refl
+
+-- What was silent is silent.
+silent-still : {p r : Role} → Unseen p r → p ≡ silent → r ≡ silent
+silent-still as-before h = h
+silent-still not-seen h = refl
 
 -- ---- machines
 
@@ -98,33 +101,33 @@ module _ {S S' : Type 0} {M : Machine S} {O : Observation S} {M' : Machine S'} {
     given-back f w = let x = f (w .0) (w .1) in
         (x .0, x .1, E .classes (x .2) ∙ w .2 ∙ sym (E .classes (step .2)))
 
-    by-step : T (is-low-input (role M' O' e)) → Answers M O rule-3 e s t u
+    by-step : role M' O' e ≡ low-input → Answers M O rule-3 e s t u
     by-step h = given-back (λ v' a. E .back (other .1) a) (holds rule-3 e _ _ _ (h, step .1, alike))
 
-    by-silent : T (is-silent (role M' O' e)) → Answers M O rule-4 e s t u
+    by-silent : role M' O' e ≡ silent → Answers M O rule-4 e s t u
     by-silent h = given-back (λ v' a. silent-back a u (other .1)) (holds rule-4 e _ _ _ (h, step .1, alike))
 
-    by-around : T (is-low-output (role M' O' e)) → Answers M O rule-5 e s t u
+    by-around : role M' O' e ≡ low-output → Answers M O rule-5 e s t u
     by-around h = given-back (λ v' a. around-back a u (other .1)) (holds rule-5 e _ _ _ (h, step .1, alike))
 
   pub earlier-related : Restrictive M' O' → Restrictive M O
   earlier-related holds rule-1 e s t u h =
       let from = E .there s in
-      let w = holds rule-1 e _ (from .0) (from .0) (seen-alike is-input (λ z. z) (unseen e) h) in
+      let w = holds rule-1 e _ (from .0) (from .0) (input-alike (unseen e) h) in
       let x = E .back (from .1) (w .1) in
       (x .0, x .1)
   earlier-related holds rule-2 e s t u (h, p) =
       let from = E .there s in
       let step = E .forth (from .1) p in
-      E .classes (step .2) ∙ holds rule-2 e _ _ (from .0) (seen-alike is-high-input (λ z. z) (unseen e) h, step .1)
+      E .classes (step .2) ∙ holds rule-2 e _ _ (from .0) (seen-alike tt (unseen e) h, step .1)
       ∙ sym (E .classes (from .1))
-  earlier-related holds rule-3 e s t u (h, p, q) = by-step holds p q (seen-alike is-low-input (λ z. z) (unseen e) h)
+  earlier-related holds rule-3 e s t u (h, p, q) = by-step holds p q (seen-alike tt (unseen e) h)
   earlier-related holds rule-4 e s t u (h, p, q) =
       ⊎-elim
       (by-silent holds p q)
-      (λ l. let w = by-around holds p q l in (w .0, around-silent M O h (w .1), w .2))
+      (λ l. answer-silent M O e s t u h (by-around holds p q l))
       (silent-was (unseen e) h)
-  earlier-related holds rule-5 e s t u (h, p, q) = by-around holds p q (seen-alike is-low-output (λ z. z) (unseen e) h)
+  earlier-related holds rule-5 e s t u (h, p, q) = by-around holds p q (seen-alike tt (unseen e) h)
 
 step-from : {S : Type 0} (M : Machine S) {e : ℕ} {s s' t : S} → s ≡ s' → M .step e s t → M .step e s' t
 step-from M {e} {t = t} q p = subst (λ x. M .step e x t) q p

@@ -3,10 +3,9 @@
 -- leader answers by its own rule; the other moves along, in its class at a high event and by rule 3 at a low one.
 -- Silent steps of one component are silent steps of the composite.
 use Prim.Native.Nat.{ℕ}
-use mathlib.Core.Path.{_≡_, refl, sym, _∙_, subst}
+use mathlib.Core.Path.{_≡_, refl, sym, ap, _∙_, subst}
 use mathlib.Core.Bool.{Bool, true, false}
 use mathlib.Core.Logic.{_⊎_, inl, inr, ⊎-elim}
-use lib.Dec.{T}
 use Rattle.machine.specs.Machine.{input, output, Event, Machine, Observation}
 use Rattle.machine.specs.Roles.{
   Role,
@@ -18,11 +17,7 @@ use Rattle.machine.specs.Roles.{
   at-level,
   role-of,
   role,
-  is-input,
-  is-low-input,
-  is-high-input,
-  is-silent,
-  is-low-output,
+  IsInput,
 }
 use Rattle.machine.specs.Silent.{Silent, still, then}
 use Rattle.machine.specs.Rules.{Rule, rule-1, rule-2, rule-3, rule-4, rule-5, Asks, Answers, Restrictive}
@@ -40,8 +35,8 @@ use Rattle.machine.specs.Hookup.{
   IsProduct,
   HookupRestrictive,
 }
-use Rattle.machine.proofs.Silent.{around-alone, around-wider, around-silent}
-use Rattle.machine.proofs.Traces.{role-high-input, test-as, missing-absent, not-missing}
+use Rattle.machine.proofs.Silent.{around-alone, around-wider, answer-silent}
+use Rattle.machine.proofs.Traces.{Present, Sounds, missing-absent, not-missing}
 
 -- ---- left and right
 
@@ -103,57 +98,60 @@ combines-led is-low right-only = inr alone
 combines-led is-low (left-sends {l}) = inl (shared (is-low l))
 combines-led is-low (right-sends {l}) = inr (shared (is-low l))
 
--- The event is missing, or its role passes the test.
-abbrev Lacks-or : (Role → Bool) → Role → Type 0
-Lacks-or f r = (r ≡ missing) ⊎ T (f r)
+-- The event is missing, or has this role.
+abbrev Lacks-or : Role → Role → Type 0
+Lacks-or x r = (r ≡ missing) ⊎ (r ≡ x)
 
--- Where the composite's role passes a test that no silent event passes, so does the leader's, and the other component
--- lacks the event.
-leads-alone : (f : Role → Bool) → (T (f silent) → ⊥) → {p q r : Role} → Led p q r → T (f r) → T (f p) × (q ≡ missing)
-leads-alone f n alone h = (h, refl)
-leads-alone f n low-shared h = absurd (n h)
-leads-alone f n high-shared h = absurd (n h)
+-- Where the composite's role is not a silent one, it is the leader's, and the other component lacks the event.
+leads-alone : {x p q r : Role} → Sounds x → Led p q r → r ≡ x → (p ≡ x) × (q ≡ missing)
+leads-alone n alone h = (h, refl)
+leads-alone n low-shared h = absurd (subst Sounds (sym h) n)
+leads-alone n high-shared h = absurd (subst Sounds (sym h) n)
+
+leads-input : {p q r : Role} → Led p q r → IsInput r → IsInput p × (q ≡ missing)
+leads-input l (inl h) = let i = leads-alone tt l h in (inl (i .0), i .1)
+leads-input l (inr h) = let i = leads-alone tt l h in (inr (i .0), i .1)
 
 -- A silent event of the composite is silent in the leader, and the other lacks it or has it as a high input; or it is a
 -- low output of the leader, and a low input of the other.
-leads-silent : {p q r : Role} → Led p q r → T (is-silent r)
-    → (T (is-silent p) × Lacks-or is-high-input q) ⊎ (T (is-low-output p) × Lacks-or is-low-input q)
+leads-silent : {p q r : Role} → Led p q r → r ≡ silent
+    → ((p ≡ silent) × Lacks-or high-input q) ⊎ ((p ≡ low-output) × Lacks-or low-input q)
 leads-silent alone h = inl (h, inl refl)
-leads-silent low-shared h = inr (tt, inr tt)
-leads-silent high-shared h = inl (tt, inr tt)
+leads-silent low-shared h = inr (refl, inr refl)
+leads-silent high-shared h = inl (refl, inr refl)
 
 -- A silent event of either component is silent in the composite, and the other lacks it or has it as a high input.
-silent-led : {p q r : Role} → Either-led p q r → T (is-silent p) → T (is-silent r) × Lacks-or is-high-input q
+silent-led : {p q r : Role} → Either-led p q r → p ≡ silent → (r ≡ silent) × Lacks-or high-input q
 silent-led (inl alone) h = (h, inl refl)
-silent-led (inl low-shared) h = absurd h
-silent-led (inl high-shared) h = (tt, inr tt)
-silent-led (inr alone) h = absurd h
-silent-led (inr low-shared) h = absurd h
-silent-led (inr high-shared) h = absurd h
+silent-led (inl low-shared) h = absurd (subst Sounds h tt)
+silent-led (inl high-shared) h = (refl, inr refl)
+silent-led (inr alone) h = absurd (subst Present (sym h) tt)
+silent-led (inr low-shared) h = absurd (subst Sounds h tt)
+silent-led (inr high-shared) h = absurd (subst Sounds h tt)
 
 -- ---- the moves of one component
 
 module _ {S : Type 0} (M : Machine S) (O : Observation S) (e : ℕ) where
   -- The move of a machine that has the event, as its role shows, is a step.
-  moved : (f : Role → Bool) → (T (f missing) → ⊥) → T (f (role M O e)) → {s t : S} → Move M e s t → M .step e s t
+  moved : {x : Role} → Present x → role M O e ≡ x → {s t : S} → Move M e s t → M .step e s t
   unfolding role-of
-  moved f n h (steps p) = p
-  moved f n h (stays z) = absurd (n (subst (λ (x : Event). T (f (role-of (O .low) x))) z h))
+  moved n h (steps p) = p
+  moved n h (stays z) = absurd (subst Present (sym h ∙ ap (role-of (O .low)) z) n)
 
 -- Rules 1 to 3 hold of the moves of a restrictive machine as they do of its steps.
 module _ {S : Type 0} (M : Machine S) (O : Observation S) (R : Restrictive M O) (e : ℕ) where
-  high-keeps : {s t : S} → Lacks-or is-high-input (role M O e) → Move M e s t → O .class t ≡ O .class s
+  high-keeps : {s t : S} → Lacks-or high-input (role M O e) → Move M e s t → O .class t ≡ O .class s
   high-keeps i (stays z) = refl
   high-keeps (inl z) (steps p) = absurd (not-missing M O p z)
   high-keeps {s} {t} (inr h) (steps p) = R rule-2 e s t s (h, p)
 
-  high-move : Lacks-or is-high-input (role M O e) → (s : S) → (t : S) × Move M e s t × (O .class t ≡ O .class s)
+  high-move : Lacks-or high-input (role M O e) → (s : S) → (t : S) × Move M e s t × (O .class t ≡ O .class s)
   high-move (inl z) s = (s, stays (missing-absent _ (M .events e) z), refl)
   high-move (inr h) s =
-      let w = R rule-1 e s s s (test-as is-input (role-high-input (role M O e) h) tt) in
+      let w = R rule-1 e s s s (inr h) in
       (w .0, steps (w .1), R rule-2 e s (w .0) s (h, w .1))
 
-  low-move : {s t : S} → Lacks-or is-low-input (role M O e) → Move M e s t → (u : S) → O .class u ≡ O .class s
+  low-move : {s t : S} → Lacks-or low-input (role M O e) → Move M e s t → (u : S) → O .class u ≡ O .class s
       → (v : S) × Move M e u v × (O .class v ≡ O .class t)
   low-move i (stays z) u q = (u, stays z, q)
   low-move (inl z) (steps p) u q = absurd (not-missing M O p z)
@@ -187,8 +185,8 @@ module _ {SA SB SN : Type 0} {A : Machine SA} {B : Machine SB} {N : Machine SN} 
     abbrev follows : Move B e b b'
     follows = H .moves e a a' b b' .0 p .2
 
-    led-by : (f : Role → Bool) → (T (f missing) → ⊥) → T (f (role A OA e)) → A .step e a a'
-    led-by f n h = moved A OA e f n h (H .moves e a a' b b' .0 p .1)
+    led-by : {x : Role} → Present x → role A OA e ≡ x → A .step e a a'
+    led-by n h = moved A OA e n h (H .moves e a a' b b' .0 p .1)
 
     together : {v : SA} {w : SB} → OA .class v ≡ OA .class a' → OB .class w ≡ OB .class b'
         → ON .class (pair v w) ≡ ON .class (pair a' b')
@@ -200,18 +198,18 @@ module _ {SA SB SN : Type 0} {A : Machine SA} {B : Machine SB} {N : Machine SN} 
       alike = P .classes c a d b .0 q
 
       -- A silent event of A: A answers by rule 4, and B keeps its class.
-      silently : T (is-silent (role A OA e)) → Lacks-or is-high-input (role B OB e)
+      silently : role A OA e ≡ silent → Lacks-or high-input (role B OB e)
           → Answers N ON rule-4 e (pair a b) (pair a' b') (pair c d)
       silently h i =
-          let w = RA rule-4 e a a' c (h, led-by is-silent (λ z. z) h, alike .0) in
+          let w = RA rule-4 e a a' c (h, led-by tt h, alike .0) in
           let x = lift (w .1) d in
           (pair (w .0) (x .0), x .1, together (w .2) (x .2 ∙ alike .1 ∙ sym (high-keeps B OB RB e i follows)))
 
       -- A low output of A: A answers by rule 5, and B follows by rule 3.
-      around : T (is-low-output (role A OA e)) → Lacks-or is-low-input (role B OB e)
+      around : role A OA e ≡ low-output → Lacks-or low-input (role B OB e)
           → Answers N ON rule-5 e (pair a b) (pair a' b') (pair c d)
       around h i =
-          let w = RA rule-5 e a a' c (h, led-by is-low-output (λ z. z) h, alike .0) in
+          let w = RA rule-5 e a a' c (h, led-by tt h, alike .0) in
           let x = lift (w .1 .before) d in
           let y = low-move B OB RB e i follows (x .0) (x .2 ∙ alike .1) in
           let z = lift (w .1 .after) (y .0) in
@@ -222,25 +220,25 @@ module _ {SA SB SN : Type 0} {A : Machine SA} {B : Machine SB} {N : Machine SN} 
   led : (e : ℕ) → Led (role A OA e) (role B OB e) (role N ON e) → (r : Rule) (a a' c : SA) (b b' d : SB)
       → Asks N ON r e (pair a b) (pair a' b') (pair c d) → Answers N ON r e (pair a b) (pair a' b') (pair c d)
   led e l rule-1 a a' c b b' d h =
-      let i = leads-alone is-input (λ z. z) l h in
+      let i = leads-input l h in
       let w = RA rule-1 e a a a (i .0) in
       (pair (w .0) b, led-step (w .1) (stays (missing-absent _ (B .events e) (i .1))))
   led e l rule-2 a a' c b b' d (h, p) =
-      let i = leads-alone is-high-input (λ z. z) l h in
-      let w = RA rule-2 e a a' a (i .0, led-by e p is-high-input (λ z. z) (i .0)) in
+      let i = leads-alone tt l h in
+      let w = RA rule-2 e a a' a (i .0, led-by e p tt (i .0)) in
       P .classes a' a b' b .1 (w, high-keeps B OB RB e (inl (i .1)) (follows e p))
   led e l rule-3 a a' c b b' d (h, p, q) =
-      let i = leads-alone is-low-input (λ z. z) l h in
-      let w = RA rule-3 e a a' c (i .0, led-by e p is-low-input (λ z. z) (i .0), alike e p q .0) in
+      let i = leads-alone tt l h in
+      let w = RA rule-3 e a a' c (i .0, led-by e p tt (i .0), alike e p q .0) in
       let x = low-move B OB RB e (inl (i .1)) (follows e p) d (alike e p q .1) in
       (pair (w .0) (x .0), led-step (w .1) (x .1), together e p (w .2) (x .2))
   led e l rule-4 a a' c b b' d (h, p, q) =
       ⊎-elim
       (λ i. silently e p q (i .0) (i .1))
-      (λ i. let w = around e p q (i .0) (i .1) in (w .0, around-silent N ON h (w .1), w .2))
+      (λ i. answer-silent N ON e (pair a b) (pair a' b') (pair c d) h (around e p q (i .0) (i .1)))
       (leads-silent l h)
   led e l rule-5 a a' c b b' d (h, p, q) =
-      let i = leads-alone is-low-output (λ z. z) l h in
+      let i = leads-alone tt l h in
       around e p q (i .0) (inl (i .1))
 
 pub hookup-restrictive : HookupRestrictive

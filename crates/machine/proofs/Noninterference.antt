@@ -3,18 +3,17 @@
 -- silent steps around it; after each low event the high inputs that are given for the gap are run.
 use Prim.Native.Nat.{ℕ}
 use mathlib.Core.Path.{_≡_, refl, sym, _∙_}
+use mathlib.Core.Logic.{inl, inr}
 use mathlib.Core.List.{List, [], _∷_}
 use native.Mathlib.Omega.{arith}
 use lib.ListN.{length}
-use lib.Dec.{T}
 use Rattle.machine.specs.Machine.{Machine, Observation}
-use Rattle.machine.specs.Roles.{Role, missing, low-input, high-input, low-output, silent, role, is-input}
-use Rattle.machine.specs.Roles.{is-low-input, is-high-input, is-silent, is-low-output, is-seen}
+use Rattle.machine.specs.Roles.{Role, missing, low-input, high-input, low-output, silent, role}
 use Rattle.machine.specs.Rules.{rule-1, rule-2, rule-3, rule-4, rule-5, Around, Restrictive}
 use Rattle.machine.specs.Traces.{Can, low-first, lows}
 use Rattle.machine.specs.Noninterference.{HighInputs, AllHighInputs, RestrictiveHides}
 use Rattle.machine.proofs.Silent.{around-alone}
-use Rattle.machine.proofs.Traces.{role-high-input, test-as, not-missing, Shows, shows-nothing}
+use Rattle.machine.proofs.Traces.{IsLow, not-missing, Shows, shows-nothing}
 use Rattle.machine.proofs.Traces.{shows-high-input, shows-silent, shows-around}
 
 module _ {S : Type 0} (M : Machine S) (O : Observation S) (R : Restrictive M O) where
@@ -24,7 +23,7 @@ module _ {S : Type 0} (M : Machine S) (O : Observation S) (R : Restrictive M O) 
       → (u : S) → O .class u ≡ c → Shows M O u ls (g ∷ gs)
   feed [] h c ls gs rest u q = rest u q
   feed (e ∷ g) h c ls gs rest u q =
-      let w = R rule-1 e u u u (test-as is-input (role-high-input (role M O e) (h .0)) tt) in
+      let w = R rule-1 e u u u (inr (h .0)) in
       shows-high-input M O (h .0) (w .1) (feed g (h .1) c _ _ rest (w .0) (R rule-2 e u (w .0) u (h .0, w .1) ∙ q))
 
   -- Every state of the class of s answers e with e itself and silent steps around it, which lead into the class of t.
@@ -39,7 +38,7 @@ module _ {S : Type 0} (M : Machine S) (O : Observation S) (R : Restrictive M O) 
       → Shows M O u ls ([] ∷ gs)
 
   -- So it is with one step more in front: by a low event, a high input, a silent event.
-  low-before : (e : ℕ) (s t : S) (ls : List ℕ) → T (is-seen (role M O e)) → AnsweredAround e s t → Answered t ls
+  low-before : (e : ℕ) (s t : S) (ls : List ℕ) → IsLow (role M O e) → AnsweredAround e s t → Answered t ls
       → Answered s (e ∷ ls)
   low-before e s t ls l answer rest [] hs n u q = absurd (omega arith)
   low-before e s t ls l answer rest (g ∷ gs) hs n u q =
@@ -47,11 +46,11 @@ module _ {S : Type 0} (M : Machine S) (O : Observation S) (R : Restrictive M O) 
       let m : length gs ≡ length ls = omega arith in
       shows-around M O l (w .1) (feed g (hs .0) _ _ _ (rest gs (hs .1) m) (w .0) (w .2))
 
-  high-input-before : (e : ℕ) (s t : S) (ls : List ℕ) → T (is-high-input (role M O e)) → M .step e s t → Answered t ls
+  high-input-before : (e : ℕ) (s t : S) (ls : List ℕ) → role M O e ≡ high-input → M .step e s t → Answered t ls
       → Answered s ls
   high-input-before e s t ls h p rest gs hs n u q = rest gs hs n u (q ∙ sym (R rule-2 e s t u (h, p)))
 
-  silent-before : (e : ℕ) (s t : S) (ls : List ℕ) → T (is-silent (role M O e)) → M .step e s t → Answered t ls
+  silent-before : (e : ℕ) (s t : S) (ls : List ℕ) → role M O e ≡ silent → M .step e s t → Answered t ls
       → Answered s ls
   silent-before e s t ls h p rest gs hs n u q = let w = R rule-4 e s t u (h, p, q) in
       shows-silent M O (w .1) (rest gs hs n (w .0) (w .2))
@@ -61,13 +60,13 @@ module _ {S : Type 0} (M : Machine S) (O : Observation S) (R : Restrictive M O) 
   unfolding low-first
   step-before missing e s t ls r p = absurd (not-missing M O p r)
   step-before low-input e s t ls r p =
-      low-before e s t _ (test-as is-seen r tt) (λ u q.
-      let w = R rule-3 e s t u (test-as is-low-input r tt, p, q) in
+      low-before e s t _ (inl r) (λ u q.
+      let w = R rule-3 e s t u (r, p, q) in
       (w .0, around-alone M O e (w .1), w .2))
-  step-before high-input e s t ls r p = high-input-before e s t _ (test-as is-high-input r tt) p
+  step-before high-input e s t ls r p = high-input-before e s t _ r p
   step-before low-output e s t ls r p =
-      low-before e s t _ (test-as is-seen r tt) (λ u q. R rule-5 e s t u (test-as is-low-output r tt, p, q))
-  step-before silent e s t ls r p = silent-before e s t _ (test-as is-silent r tt) p
+      low-before e s t _ (inr r) (λ u q. R rule-5 e s t u (r, p, q))
+  step-before silent e s t ls r p = silent-before e s t _ r p
 
   answered : (l : List ℕ) (s : S) → Can M s l → Answered s (lows M O l)
   unfolding lows

@@ -3,9 +3,8 @@ use Prim.Native.Nat.{ℕ, suc}
 use mathlib.Core.Path.{_≡_}
 use mathlib.Core.List.{List, [], _∷_}
 use lib.ListN.{length}
-use lib.Dec.{T}
 use Rattle.machine.specs.Machine.{Machine, Observation}
-use Rattle.machine.specs.Roles.{role, is-high-input}
+use Rattle.machine.specs.Roles.{high-input, role}
 use Rattle.machine.specs.Rules.{Restrictive}
 use Rattle.machine.specs.Traces.{Trace, lows, gaps}
 
@@ -13,7 +12,7 @@ module _ {S : Type 0} (M : Machine S) (O : Observation S) where
   -- Every event of the list is a high input.
   abbrev pub HighInputs : List ℕ → Type 0
   HighInputs [] = Unit {0}
-  HighInputs (e ∷ l) = T (is-high-input (role M O e)) × HighInputs l
+  HighInputs (e ∷ l) = (role M O e ≡ high-input) × HighInputs l
 
   abbrev pub AllHighInputs : List (List ℕ) → Type 0
   AllHighInputs [] = Unit {0}

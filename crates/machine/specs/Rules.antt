@@ -1,9 +1,8 @@
 -- The five rules of restrictiveness (document 01, "The five rules"; source 001), with internal events unseen (document 02, i).
 use Prim.Native.Nat.{ℕ}
 use mathlib.Core.Path.{_≡_}
-use lib.Dec.{T}
 use Rattle.machine.specs.Machine.{Machine, Observation}
-use Rattle.machine.specs.Roles.{role, is-input, is-low-input, is-high-input, is-silent, is-low-output}
+use Rattle.machine.specs.Roles.{low-input, high-input, low-output, silent, role, IsInput}
 use Rattle.machine.specs.Silent.{Silent}
 
 -- The rules by their numbers.
@@ -23,11 +22,11 @@ module _ {S : Type 0} (M : Machine S) (O : Observation S) where
   -- others: where the event leads from s to t, and u has the class of s; a low input for 3, a silent event (a high output or an internal
   -- event) for 4, a low output for 5.
   abbrev pub Asks : Rule → ℕ → S → S → S → Type 0
-  Asks rule-1 e s t u = T (is-input (role M O e))
-  Asks rule-2 e s t u = T (is-high-input (role M O e)) × M .step e s t
-  Asks rule-3 e s t u = T (is-low-input (role M O e)) × M .step e s t × (O .class u ≡ O .class s)
-  Asks rule-4 e s t u = T (is-silent (role M O e)) × M .step e s t × (O .class u ≡ O .class s)
-  Asks rule-5 e s t u = T (is-low-output (role M O e)) × M .step e s t × (O .class u ≡ O .class s)
+  Asks rule-1 e s t u = IsInput (role M O e)
+  Asks rule-2 e s t u = (role M O e ≡ high-input) × M .step e s t
+  Asks rule-3 e s t u = (role M O e ≡ low-input) × M .step e s t × (O .class u ≡ O .class s)
+  Asks rule-4 e s t u = (role M O e ≡ silent) × M .step e s t × (O .class u ≡ O .class s)
+  Asks rule-5 e s t u = (role M O e ≡ low-output) × M .step e s t × (O .class u ≡ O .class s)
 
   -- What it asks. Rule 1: a step from s. Rule 2: that t has the class of s. The others: that u can answer with a state of t's class, by
   -- the event (3), by silent steps (4), by silent steps, the event and silent steps (5).

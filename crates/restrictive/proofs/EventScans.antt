@@ -13,9 +13,9 @@ use Rattle.restrictive.specs.declared.answer.Violation.{Violation}
 use Rattle.restrictive.specs.declared.answer.Found.{Found}
 use Rattle.restrictive.specs.declared.answer.Found.the-variants.{At, Nothing}
 use Rattle.restrictive.specs.Found.{found-of}
-use Rattle.relations.specs.Relations.{role-at, rule-at}
+use Rattle.relations.specs.Relations.{role-at, concerns, rule-at}
 use Rattle.restrictive.specs.Verdict.{event-violation, rule-violation}
-use Rattle.relations.specs.Sets.{concerns, Concerned}
+use Rattle.relations.specs.Sets.{Concerned}
 use Rattle.restrictive.proofs.Offers.{none-by}
 use Rattle.restrictive.proofs.Scans.{Left, left-all, left-lowest, left-found, left-next, left-none}
 

@@ -16,11 +16,10 @@ use Rattle.bounded.proofs.Search.{same-truth, is-false, is-true, true-not-false
 use Rattle.bounded.proofs.Search.{true-or-false, and-right}
 use Rattle.machine.specs.Rules.{Rule, rule-1, rule-2, rule-3, rule-4, rule-5}
 use Rattle.part.specs.Record.{states, identifier, row, Observer}
-use Rattle.relations.specs.Relations.{role-at, leads, same-class, rule-at}
+use Rattle.relations.specs.Relations.{role-at, concerns, leads, same-class, rule-at}
 use Rattle.restrictive.specs.declared.answer.Case.{Case}
 use Rattle.restrictive.specs.Tests.{asks, answers, broken}
 use Rattle.restrictive.specs.Verdict.{Violation, violation-at, state-violation, event-violation}
-use Rattle.relations.specs.Sets.{concerns}
 use Rattle.restrictive.specs.Sets.{Enabled, led-to, reached, offer, permits, observer-in, Judgeable, Asked}
 use Rattle.restrictive.specs.Sets.{Offers}
 use Rattle.words.specs.Sets.{bit, intersection}

@@ -1,26 +1,25 @@
 -- The tests are the rules: each holds at the place of an event and at states exactly where the relation does.
 use Prim.Native.Nat.{ℕ}
-use mathlib.Core.Path.{_≡_, refl, ap, sym}
+use mathlib.Core.Path.{_≡_, refl, ap, subst}
 use mathlib.Core.Bool.{Bool, not, _&&_}
 use mathlib.Core.List.{List}
 use mathlib.Core.Option.{Option, none, some}
 use mathlib.Core.Logic.{_↔_}
 use lib.Dec.{T}
 use Rattle.bounded.specs.Search.{any}
-use Rattle.machine.specs.Roles.{Role, missing, role-of, role, is-input, is-low-input, is-high-input, is-silent}
-use Rattle.machine.specs.Roles.{is-low-output}
+use Rattle.machine.specs.Roles.{missing, role-of, role}
 use Rattle.machine.specs.Rules.{Rule, rule-1, rule-2, rule-3, rule-4, rule-5, Around, Asks, Answers, Broken}
-use Rattle.machine.proofs.Traces.{test-as}
 use Rattle.level.specs.Level.{low}
 use Rattle.part.specs.Record.{observer, states, class, observer-of}
 use Rattle.part.specs.Rejections.{Accepted}
 use Rattle.part.specs.Machine.{State, machine, observation}
 use Rattle.part.specs.Events.{place}
 use Rattle.part.proofs.Places.{event-none}
-use Rattle.relations.specs.Relations.{role-at, leads, same-class, reach}
+use Rattle.relations.specs.Relations.{role-at, concerns, leads, same-class, reach}
 use Rattle.restrictive.specs.Tests.{around, asks, answers, broken}
 use Rattle.bounded.proofs.Truth.{eqb-iff, and-iff, and-three-iff, not-iff, any-iff, any-both-iff}
-use Rattle.relations.proofs.SilentReach.{role-iff, leads-iff, reach-silent}
+use Rattle.relations.proofs.Roles.{Concerns, concerns-iff}
+use Rattle.relations.proofs.SilentReach.{concerns-at, leads-iff, reach-silent}
 
 -- ---- classes
 
@@ -42,25 +41,25 @@ module _ (b : List ℕ) (a : Accepted b) (e i : ℕ) (p : place b e ≡ some i) 
   steps : (s t : State b) → T (leads b i (s .0) (t .0)) ↔ machine b a .step e s t
   steps = leads-iff b a e i p
 
-  -- An event that passes a test leads from s to t, and u has the class of s.
-  step-iff : (f : Role → Bool) (s t u : State b)
-      → T (f (role-at b (observer b) i) && leads b i (s .0) (t .0) && same-class (class b) (u .0) (s .0))
-      ↔ (T (f (role (machine b a) (observation b) e)) × machine b a .step e s
+  -- An event that a rule speaks of leads from s to t, and u has the class of s.
+  step-iff : (q : Rule) (s t u : State b)
+      → T (concerns q (role-at b (observer b) i) && leads b i (s .0) (t .0) && same-class (class b) (u .0) (s .0))
+      ↔ (Concerns q (role (machine b a) (observation b) e) × machine b a .step e s
       t × (observation b .class u ≡ observation b .class s))
-  step-iff f s t u =
-      and-three-iff (f (role-at b (observer b) i)) (leads b i (s .0) (t .0)) (same-class (class b) (u .0) (s .0))
-      (role-iff b a e i p f) (steps s t) (class-iff b u s)
+  step-iff q s t u =
+      and-three-iff (concerns q (role-at b (observer b) i)) (leads b i (s .0) (t .0))
+      (same-class (class b) (u .0) (s .0)) (concerns-at b a e i p q) (steps s t) (class-iff b u s)
 
   pub asks-iff : (r : Rule) (s t u : State b)
       → T (asks b (observer-of b) r i (s .0) (t .0) (u .0)) ↔ Asks (machine b a) (observation b) r e s t u
   unfolding asks
-  asks-iff rule-1 s t u = role-iff b a e i p is-input
+  asks-iff rule-1 s t u = concerns-at b a e i p rule-1
   asks-iff rule-2 s t u =
-      and-iff (is-high-input (role-at b (observer b) i)) (leads b i (s .0) (t .0)) (role-iff b a e i p is-high-input)
+      and-iff (concerns rule-2 (role-at b (observer b) i)) (leads b i (s .0) (t .0)) (concerns-at b a e i p rule-2)
       (steps s t)
-  asks-iff rule-3 s t u = step-iff is-low-input s t u
-  asks-iff rule-4 s t u = step-iff is-silent s t u
-  asks-iff rule-5 s t u = step-iff is-low-output s t u
+  asks-iff rule-3 s t u = step-iff rule-3 s t u
+  asks-iff rule-4 s t u = step-iff rule-4 s t u
+  asks-iff rule-5 s t u = step-iff rule-5 s t u
 
   around-iff : (u v : State b) → T (around b (observer b) i (u .0) (v .0)) ↔ Around (machine b a) (observation b) e u v
   unfolding around
@@ -94,17 +93,17 @@ module _ (b : List ℕ) (a : Accepted b) (e i : ℕ) (p : place b e ≡ some i) 
 -- ---- an event that is not in the record
 
 module _ (b : List ℕ) (a : Accepted b) (e : ℕ) (p : place b e ≡ none) where
-  never : (f : Role → Bool) → T (f (role (machine b a) (observation b) e)) → T (f missing)
+  never : (q : Rule) → Concerns q (role (machine b a) (observation b) e) → T (concerns q missing)
   unfolding role-of
-  never f = test-as f (sym (ap (role-of (low (observer b))) (event-none b e p)))
+  never q h = concerns-iff q missing .1 (subst (Concerns q) (ap (role-of (low (observer b))) (event-none b e p)) h)
 
   -- It is asked nothing.
   pub absent-asks : (r : Rule) (s t u : State b) → Asks (machine b a) (observation b) r e s t u → ⊥
-  absent-asks rule-1 s t u h = never is-input h
-  absent-asks rule-2 s t u h = never is-high-input (h .0)
-  absent-asks rule-3 s t u h = never is-low-input (h .0)
-  absent-asks rule-4 s t u h = never is-silent (h .0)
-  absent-asks rule-5 s t u h = never is-low-output (h .0)
+  absent-asks rule-1 s t u h = never rule-1 h
+  absent-asks rule-2 s t u h = never rule-2 (h .0)
+  absent-asks rule-3 s t u h = never rule-3 (h .0)
+  absent-asks rule-4 s t u h = never rule-4 (h .0)
+  absent-asks rule-5 s t u h = never rule-5 (h .0)
 
 -- An event that is asked anything has a place.
 pub asked-placed : (b : List ℕ) (a : Accepted b) (r : Rule) (e : ℕ) (s t u : State b)

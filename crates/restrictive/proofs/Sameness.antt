@@ -12,15 +12,15 @@ use borrow.Author.Tests.{eq-eqb, lt-ltb}
 use Rattle.bounded.specs.Search.{any, first}
 use Rattle.bounded.proofs.Search.{any-at, first-none, first-nothing, and-now, not-refuted}
 use Rattle.bounded.proofs.Search.{true-or-false, true-not-false}
-use Rattle.machine.specs.Roles.{is-silent}
+use Rattle.machine.specs.Roles.{silent}
 use Rattle.words.specs.Sets.{bit}
 use Rattle.words.proofs.Sets.{bit-zero}
 use Rattle.part.specs.Record.{states, events, Observer}
-use Rattle.relations.specs.Relations.{role-at, leads, step-by, silent-step, reach-for, same-class, rule-at}
+use Rattle.relations.specs.Relations.{role-at, is-role, concerns, leads, step-by, silent-step, reach-for, same-class, rule-at}
 use Rattle.relations.proofs.SilentReach.{reach-self, reach-step}
 use Rattle.restrictive.specs.Tests.{around}
 use Rattle.restrictive.specs.Verdict.{event-violation, rule-violation, first-violation}
-use Rattle.relations.specs.Sets.{concerns, Concerned, AllDistinct, ClasswiseEqual}
+use Rattle.relations.specs.Sets.{Concerned, AllDistinct, ClasswiseEqual}
 use Rattle.restrictive.specs.Sets.{led-to, reached, offer, Asked, Offers}
 use Rattle.restrictive.proofs.Offers.{broken-asked, not-led, none-at, none-by}
 
@@ -38,7 +38,7 @@ module _ (b : List ℕ) (o : Observer) (i s t : ℕ) (hs : s < states b) (ht : t
       any-at _ _ s hs
       (and-now _ _ (reach-self b _ s hs) ∙ last)
 
-  silent-there : i < events b → is-silent (role-at b (o .level) i) ≡ true → leads b i s t ≡ true
+  silent-there : i < events b → is-role silent (role-at b (o .level) i) ≡ true → leads b i s t ≡ true
       → silent-step b (o .level) s t ≡ true
   unfolding silent-step step-by
   silent-there l r e = any-at _ _ i l (and-now _ _ r ∙ e)

@@ -10,8 +10,8 @@ use Rattle.bounded.specs.Search.{any, all}
 use Rattle.words.specs.Sets.{bit, Rows, gathered}
 use Rattle.part.specs.Record.{states, events, row, Observer, observing}
 use Rattle.machine.specs.Rules.{Rule, rule-1, rule-2, rule-3, rule-4, rule-5}
-use Rattle.relations.specs.Relations.{rule-at, role-at, leads, reach-for, same-class}
-use Rattle.relations.specs.Sets.{Sound, concerns, LookedUp}
+use Rattle.relations.specs.Relations.{rule-at, role-at, concerns, leads, reach-for, same-class}
+use Rattle.relations.specs.Sets.{Sound, LookedUp}
 use Rattle.restrictive.specs.declared.answer.Case.{Case}
 use Rattle.restrictive.specs.Tests.{around}
 
