@@ -2,7 +2,7 @@
 
 use std::collections::BTreeSet;
 
-use crate::part::{states_of, Event, Part, Table};
+use crate::part::{states_of, Event, Observer, Part, Table};
 
 /// Of more pairs of states than this, only the number of the others is told.
 const MAX_PAIRS: usize = 10;
@@ -39,11 +39,11 @@ fn event_title(a: &Table, b: &Table, identifier: u16) -> String {
 
 /// How many states both parts have.
 fn shared_states(a: &Part, b: &Part) -> usize {
-    a.state_count().min(b.state_count())
+    a.states.min(b.states)
 }
 
 fn state_counts(a: &Part, b: &Part, lines: &mut Vec<String>) {
-    let (in_a, in_b) = (a.state_count(), b.state_count());
+    let (in_a, in_b) = (a.states, b.states);
     if in_a != in_b {
         let shared = match shared_states(a, b) {
             1 => "only state 0 is".to_string(),
@@ -53,9 +53,40 @@ fn state_counts(a: &Part, b: &Part, lines: &mut Vec<String>) {
     }
 }
 
+/// Has one of the parts several observers? Then each line about an observer says which one it is.
+fn several(a: &Part, b: &Part) -> bool {
+    a.has_several_observers() || b.has_several_observers()
+}
+
+/// The observers of A and B that are compared with one another: those of the same level or, where both parts have only
+/// one, these two.
+fn compared<'a>(a: &'a Part, b: &'a Part) -> Vec<(&'a Observer, &'a Observer)> {
+    if !several(a, b) {
+        return vec![(&a.observers[0], &b.observers[0])];
+    }
+    a.observers.iter().filter_map(|in_a| Some((in_a, b.observer(in_a.level)?))).collect()
+}
+
+/// The observers of `one` whose level no observer of `other` has.
+fn own_observers(one: &Part, other: &Part, side: &str, lines: &mut Vec<String>) {
+    for observer in one.observers.iter().filter(|observer| other.observer(observer.level).is_none()) {
+        let classes = match observer.groups().len() {
+            1 => "1 class".to_string(),
+            count => format!("{count} classes"),
+        };
+        lines.push(format!("observer {}: only in {side}: {classes}", observer.level.text_and_byte()));
+    }
+}
+
 fn observers(a: &Part, b: &Part, lines: &mut Vec<String>) {
-    if a.observer != b.observer {
-        lines.push(format!("observer: A {}, B {}", a.observer.text_and_byte(), b.observer.text_and_byte()));
+    if several(a, b) {
+        own_observers(a, b, "A", lines);
+        own_observers(b, a, "B", lines);
+        return;
+    }
+    let (in_a, in_b) = (a.observers[0].level, b.observers[0].level);
+    if in_a != in_b {
+        lines.push(format!("observer: A {}, B {}", in_a.text_and_byte(), in_b.text_and_byte()));
     }
 }
 
@@ -67,8 +98,8 @@ fn starts(a: &Table, b: &Table, lines: &mut Vec<String>) {
 }
 
 /// The classes of the first n states.
-fn groups(part: &Part, n: usize) -> Vec<Vec<usize>> {
-    let mut groups = part.groups();
+fn groups(observer: &Observer, n: usize) -> Vec<Vec<usize>> {
+    let mut groups = observer.groups();
     for group in &mut groups {
         group.retain(|&s| s < n);
     }
@@ -76,19 +107,17 @@ fn groups(part: &Part, n: usize) -> Vec<Vec<usize>> {
     groups
 }
 
-/// The classes of `one` that `other` does not have.
-fn own_classes(one: &Table, other: &Table, n: usize, side: &str, lines: &mut Vec<String>) {
-    let others = groups(&other.part, n);
-    let mut own = groups(&one.part, n);
+/// The classes of `one`, an observer of the table, that `other` does not have.
+fn own_classes(table: &Table, one: &Observer, other: &Observer, n: usize) -> Option<String> {
+    let others = groups(other, n);
+    let mut own = groups(one, n);
     own.retain(|group| !others.contains(group));
-    let words: Vec<String> = own.iter().map(|group| format!("{{{}}}", states(one, group))).collect();
-    if !words.is_empty() {
-        lines.push(format!("grouping: classes only in {side}: {}", words.join(" ")));
-    }
+    let words: Vec<String> = own.iter().map(|group| format!("{{{}}}", states(table, group))).collect();
+    (!words.is_empty()).then(|| words.join(" "))
 }
 
 /// The pairs of states that `one` puts together and `other` does not.
-fn pairs(one: &Part, other: &Part, n: usize) -> Vec<[usize; 2]> {
+fn pairs(one: &Observer, other: &Observer, n: usize) -> Vec<[usize; 2]> {
     let mut pairs = Vec::new();
     for s in 0..n {
         for t in s + 1..n {
@@ -100,25 +129,38 @@ fn pairs(one: &Part, other: &Part, n: usize) -> Vec<[usize; 2]> {
     pairs
 }
 
-/// The line of some pairs: the first ones, then how many more there are.
-fn pair_line(title: &str, a: &Table, b: &Table, pairs: &[[usize; 2]], lines: &mut Vec<String>) {
-    if pairs.is_empty() {
-        return;
-    }
+/// Some pairs in words: the first ones, then how many more there are.
+fn pair_words(a: &Table, b: &Table, pairs: &[[usize; 2]]) -> Option<String> {
     let shown = pairs.iter().take(MAX_PAIRS);
     let mut words: Vec<String> = shown.map(|&[s, t]| format!("{} with {}", state(a, b, s), state(a, b, t))).collect();
     if pairs.len() > MAX_PAIRS {
         words.push(format!("and {} more", pairs.len() - MAX_PAIRS));
     }
-    lines.push(format!("grouping: {title}: {}", words.join(", ")));
+    (!words.is_empty()).then(|| words.join(", "))
+}
+
+/// The groupings of one observer in A and one in B; `title` begins each line.
+fn grouping(a: (&Table, &Observer), b: (&Table, &Observer), title: &str, lines: &mut Vec<String>) {
+    let n = shared_states(&a.0.part, &b.0.part);
+    let differences = [
+        ("classes only in A", own_classes(a.0, a.1, b.1, n)),
+        ("classes only in B", own_classes(b.0, b.1, a.1, n)),
+        ("together in A, apart in B", pair_words(a.0, b.0, &pairs(a.1, b.1, n))),
+        ("together in B, apart in A", pair_words(a.0, b.0, &pairs(b.1, a.1, n))),
+    ];
+    for (which, words) in differences {
+        lines.extend(words.map(|words| format!("{title}: {which}: {words}")));
+    }
 }
 
 fn groupings(a: &Table, b: &Table, lines: &mut Vec<String>) {
-    let n = shared_states(&a.part, &b.part);
-    own_classes(a, b, n, "A", lines);
-    own_classes(b, a, n, "B", lines);
-    pair_line("together in A, apart in B", a, b, &pairs(&a.part, &b.part, n), lines);
-    pair_line("together in B, apart in A", a, b, &pairs(&b.part, &a.part, n), lines);
+    for (in_a, in_b) in compared(&a.part, &b.part) {
+        let title = match several(&a.part, &b.part) {
+            true => format!("grouping for the observer {}", in_a.level.text_and_byte()),
+            false => "grouping".to_string(),
+        };
+        grouping((a, in_a), (b, in_b), &title, lines);
+    }
 }
 
 fn only_in(side: &str, title: &str, event: &Event, lines: &mut Vec<String>) {
@@ -307,11 +349,68 @@ event 12 internal rank 3 compartments 1 5
     fn many_pairs_are_counted() {
         let mut together = random::full(64, 0);
         let apart = Table::unnamed(together.clone());
-        together.classes = vec![0; 64];
+        together.observers[0].classes = vec![0; 64];
         let lines = differences(&Table::unnamed(together), &apart);
         let pairs = lines.last().unwrap();
         assert!(pairs.starts_with("grouping: together in A, apart in B: 0 with 1, 0 with 2, "), "{pairs}");
         assert!(pairs.ends_with(", 0 with 10, and 2006 more"), "{pairs}");
+    }
+
+    /// A for two more observers: the first sees nothing of the states, the last knows them.
+    fn watched() -> String {
+        let first = "observer rank 1 compartments none\nstates idle sent full\nstart idle\nclasses {0 1 2}\n";
+        let last = "observer rank 2 compartments none\nclasses {0} {1} {2}\nevent 7";
+        let text = A.replace("states idle sent full\nstart idle\n", "").replace("event 7", last);
+        text.replace("part\n", &format!("part\n{first}"))
+    }
+
+    fn table_of_several(text: &str) -> Table {
+        reader::read_kinds(text.as_bytes(), crate::kinds::SEVERAL).unwrap()
+    }
+
+    /// The differences of the part with three observers and of it with one piece of its text replaced.
+    fn changed_watched(old: &str, new: &str) -> Vec<String> {
+        assert!(watched().contains(old), "{old}");
+        differences(&table_of_several(&watched()), &table_of_several(&watched().replacen(old, new, 1)))
+    }
+
+    #[test]
+    fn observers_of_one_part_only() {
+        let expected = [
+            "observer rank 1 compartments none (0x40): only in B: 1 class",
+            "observer rank 2 compartments none (0x80): only in B: 3 classes",
+        ];
+        assert_eq!(differences(&table(A), &table_of_several(&watched())), expected);
+        let expected = [
+            "observer rank 1 compartments 0 3 (0x49): only in A: 2 classes",
+            "observer rank 1 compartments 3 (0x48): only in B: 2 classes",
+        ];
+        assert_eq!(changed_watched("compartments 0 3", "compartments 3"), expected);
+        assert_eq!(changed_watched("{0} {1} {2}", "{2} {1} {0}"), [""; 0]);
+    }
+
+    /// The observer is named, also where one of the parts has only this one.
+    #[test]
+    fn the_grouping_of_one_of_several_observers() {
+        let title = "grouping for the observer rank 1 compartments 0 3 (0x49)";
+        let expected = [
+            format!("{title}: classes only in A: {{0:idle 1:sent}} {{2:full}}"),
+            format!("{title}: classes only in B: {{0:idle}} {{1:sent 2:full}}"),
+            format!("{title}: together in A, apart in B: 0:idle with 1:sent"),
+            format!("{title}: together in B, apart in A: 1:sent with 2:full"),
+        ];
+        assert_eq!(changed_watched("{idle sent} {full}", "{idle} {sent full}"), expected);
+        let one = table(&A.replace("{idle sent} {full}", "{idle} {sent full}"));
+        let lines = differences(&table_of_several(&watched()), &one);
+        assert_eq!(lines[0], "observer rank 1 compartments none (0x40): only in A: 1 class");
+        assert_eq!(lines[1], "observer rank 2 compartments none (0x80): only in A: 3 classes");
+        assert_eq!(lines[2..], expected);
+    }
+
+    #[test]
+    fn other_differences_of_parts_with_several_observers() {
+        assert_eq!(changed_watched("start idle", "start full"), ["start: A 0:idle, B 2:full"]);
+        assert_eq!(changed_watched("input", "output"), ["event 7 \"send\": kind: A input, B output"]);
     }
 
     /// Changes one bit of a level, but not where it would then be mislabelled.
@@ -322,21 +421,36 @@ event 12 internal rank 3 compartments 1 5
         }
     }
 
+    /// Changes an observer's level, but not where the levels would then no longer rise.
+    fn change_level(rng: &mut Rng, observers: &mut [Observer], i: usize) {
+        let before = observers[i].level;
+        relabel(rng, &mut observers[i].level);
+        if !observers.windows(2).all(|two| two[0].level.0 < two[1].level.0) {
+            observers[i].level = before;
+        }
+    }
+
+    /// Changes the class of one state.
+    fn change_class(rng: &mut Rng, observer: &mut Observer) {
+        let n = observer.classes.len();
+        let mut numbers: Vec<usize> = observer.classes.iter().map(|&class| class as usize).collect();
+        numbers[rng.below(n)] = rng.below(n);
+        observer.classes = crate::part::by_first_appearance(&numbers);
+    }
+
     /// Changes one field of a part at random, perhaps to what it was.
     fn change(rng: &mut Rng, part: &mut Part) {
-        let n = part.state_count();
+        let n = part.states;
         let e = rng.below(part.events.len().max(1));
-        match (rng.below(6), part.events.get_mut(e)) {
-            (0, _) => relabel(rng, &mut part.observer),
+        let i = rng.below(part.observers.len());
+        match (rng.below(7), part.events.get_mut(e)) {
+            (0, _) => change_level(rng, &mut part.observers, i),
             (1, _) => part.start = rng.below(n),
-            (2, _) => {
-                let mut numbers: Vec<usize> = part.classes.iter().map(|&class| class as usize).collect();
-                numbers[rng.below(n)] = rng.below(n);
-                part.classes = crate::part::by_first_appearance(&numbers);
-            }
+            (2, _) => change_class(rng, &mut part.observers[i]),
             (3, Some(event)) => event.rows[rng.below(n)] ^= 1 << rng.below(n),
             (4, Some(event)) => event.kind = rng.pick(&crate::part::Kind::ALL),
             (5, Some(_)) => drop(part.events.remove(e)),
+            (6, _) if part.observers.len() > 1 => drop(part.observers.remove(i)),
             (_, Some(event)) => relabel(rng, &mut event.level),
             (_, None) => {}
         }
@@ -348,7 +462,7 @@ event 12 internal rank 3 compartments 1 5
         let mut rng = Rng::new(3);
         let (mut same, mut different) = (0, 0);
         for _ in 0..3000 {
-            let a = random::part(&mut rng);
+            let a = random::any(&mut rng);
             let mut b = a.clone();
             change(&mut rng, &mut b);
             let lines = differences(&Table::unnamed(a.clone()), &Table::unnamed(b.clone()));
@@ -366,7 +480,7 @@ event 12 internal rank 3 compartments 1 5
     fn any_two_parts_can_be_compared() {
         let mut rng = Rng::new(4);
         for _ in 0..500 {
-            let (a, b) = (random::part(&mut rng), random::part(&mut rng));
+            let (a, b) = (random::any(&mut rng), random::any(&mut rng));
             assert_eq!(differences(&Table::unnamed(a.clone()), &Table::unnamed(b.clone())).is_empty(), a == b);
         }
     }

@@ -1,8 +1,10 @@
 //! The desk tool: tables of parts as text, as records, compared and drawn.
 //! It is outside the proved core and decides no verdict.
 
+pub mod answers;
 pub mod diff;
 pub mod draw;
+pub mod kinds;
 pub mod level;
 pub mod part;
 pub mod reader;

@@ -1,4 +1,5 @@
-//! A part as its record describes it, and the names that only a table has.
+//! A part as its record describes it: what all its observers have in common, and a list of the observers. Then the
+//! names that only a table has.
 
 use std::collections::BTreeMap;
 
@@ -6,6 +7,7 @@ use crate::level::Level;
 
 pub const MAX_STATES: usize = 64;
 pub const MAX_EVENTS: usize = 32;
+pub const MAX_OBSERVERS: usize = 4;
 
 #[derive(Clone, Copy, PartialEq, Eq, Debug)]
 pub enum Kind {
@@ -46,24 +48,15 @@ impl Event {
     }
 }
 
-/// `classes[s]` is the class of state s; classes are numbered by first appearance.
+/// An observer: its level, and its partition of the states. `classes[s]` is the class of state s; classes are numbered
+/// by first appearance.
 #[derive(Clone, PartialEq, Eq, Debug)]
-pub struct Part {
-    pub observer: Level,
-    pub start: usize,
+pub struct Observer {
+    pub level: Level,
     pub classes: Vec<u8>,
-    pub events: Vec<Event>,
 }
 
-impl Part {
-    pub fn state_count(&self) -> usize {
-        self.classes.len()
-    }
-
-    pub fn event(&self, identifier: u16) -> Option<&Event> {
-        self.events.iter().find(|event| event.identifier == identifier)
-    }
-
+impl Observer {
     pub fn same_class(&self, s: usize, t: usize) -> bool {
         self.classes[s] == self.classes[t]
     }
@@ -80,14 +73,43 @@ impl Part {
         groups
     }
 
-    /// Is the event low? Needed for the words of a verdict and for drawings only, as is what the observer sees.
+    /// Is the event low for this observer? Needed for the words of a verdict and for drawings only, as is what it sees.
     pub fn is_low(&self, event: &Event) -> bool {
-        event.level.at_or_below(self.observer)
+        event.level.at_or_below(self.level)
     }
 
-    /// Does the observer see the event? It sees low inputs and low outputs, and no internal event, whatever its level.
-    pub fn is_seen(&self, event: &Event) -> bool {
+    /// Does it see the event? It sees low inputs and low outputs, and no internal event, whatever its level.
+    pub fn sees(&self, event: &Event) -> bool {
         event.kind != Kind::Internal && self.is_low(event)
+    }
+
+    /// Is the event silent for it, a high output or an internal event? A high input is neither seen nor silent.
+    pub fn is_silent(&self, event: &Event) -> bool {
+        event.kind != Kind::Input && !self.sees(event)
+    }
+}
+
+/// A part: the states 0 to `states` - 1, the start and the events with their steps, and one to four observers. Each
+/// observer has a class for each state, and their levels rise by byte.
+#[derive(Clone, PartialEq, Eq, Debug)]
+pub struct Part {
+    pub states: usize,
+    pub start: usize,
+    pub events: Vec<Event>,
+    pub observers: Vec<Observer>,
+}
+
+impl Part {
+    pub fn event(&self, identifier: u16) -> Option<&Event> {
+        self.events.iter().find(|event| event.identifier == identifier)
+    }
+
+    pub fn has_several_observers(&self) -> bool {
+        self.observers.len() > 1
+    }
+
+    pub fn observer(&self, level: Level) -> Option<&Observer> {
+        self.observers.iter().find(|observer| observer.level == level)
     }
 }
 
@@ -152,23 +174,44 @@ mod tests {
 
     #[test]
     fn groups_come_by_their_smallest_state() {
-        let part = Part { observer: Level(0), start: 0, classes: vec![0, 1, 0, 2, 1], events: Vec::new() };
-        assert_eq!(part.groups(), [vec![0, 2], vec![1, 4], vec![3]]);
+        let observer = Observer { level: Level(0), classes: vec![0, 1, 0, 2, 1] };
+        assert_eq!(observer.groups(), [vec![0, 2], vec![1, 4], vec![3]]);
+    }
+
+    /// The kinds and ranks of the events of which a test of an observer of rank 1 holds.
+    fn those(test: fn(&Observer, &Event) -> bool) -> Vec<(Kind, u8)> {
+        let observer = Observer { level: Level::of_rank(1), classes: vec![0] };
+        let mut those = Vec::new();
+        for kind in Kind::ALL {
+            for rank in 0..=3 {
+                let event = Event { identifier: 0, kind, level: Level::of_rank(rank), rows: vec![0] };
+                if test(&observer, &event) {
+                    those.push((kind, rank));
+                }
+            }
+        }
+        those
     }
 
     #[test]
     fn what_an_observer_of_rank_1_sees() {
-        let part = Part { observer: Level::of_rank(1), start: 0, classes: vec![0], events: Vec::new() };
-        let mut seen = Vec::new();
-        for kind in Kind::ALL {
-            for rank in 0..=3 {
-                let event = Event { identifier: 0, kind, level: Level::of_rank(rank), rows: vec![0] };
-                if part.is_seen(&event) {
-                    seen.push((kind, rank));
-                }
-            }
-        }
-        assert_eq!(seen, [(Kind::Input, 0), (Kind::Input, 1), (Kind::Output, 0), (Kind::Output, 1)]);
+        let seen = [(Kind::Input, 0), (Kind::Input, 1), (Kind::Output, 0), (Kind::Output, 1)];
+        assert_eq!(those(Observer::sees), seen);
+    }
+
+    #[test]
+    fn what_is_silent_for_an_observer_of_rank_1() {
+        let outputs = [2, 3].map(|rank| (Kind::Output, rank));
+        let internal = [0, 1, 2, 3].map(|rank| (Kind::Internal, rank));
+        assert_eq!(those(Observer::is_silent), [&outputs[..], &internal[..]].concat());
+    }
+
+    #[test]
+    fn an_observer_by_its_level() {
+        let observers = [Level(0x40), Level(0x81)].map(|level| Observer { level, classes: vec![0] });
+        let part = Part { states: 1, start: 0, events: Vec::new(), observers: observers.to_vec() };
+        assert_eq!(part.observer(Level(0x81)), Some(&observers[1]));
+        assert_eq!(part.observer(Level(0x80)), None);
     }
 
     #[test]

@@ -1,7 +1,7 @@
 //! Random parts for the tests. The same seed gives the same parts.
 
 use crate::level::Level;
-use crate::part::{by_first_appearance, Event, Kind, Part, MAX_EVENTS, MAX_STATES};
+use crate::part::{by_first_appearance, Event, Kind, Observer, Part, MAX_EVENTS, MAX_OBSERVERS, MAX_STATES};
 
 pub struct Rng(u64);
 
@@ -79,14 +79,47 @@ fn event(rng: &mut Rng, identifier: u16, n: usize) -> Event {
     Event { identifier, kind: rng.pick(&Kind::ALL), level: level(rng), rows }
 }
 
-/// Any part that a record can hold.
-pub fn part(rng: &mut Rng) -> Part {
-    let n = size(rng, 1, MAX_STATES);
-    let m = size(rng, 0, MAX_EVENTS);
+/// So many observers of n states, of different levels that rise by byte.
+fn observers(rng: &mut Rng, count: usize, n: usize) -> Vec<Observer> {
+    let mut levels = std::collections::BTreeSet::new();
+    while levels.len() < count {
+        levels.insert(level(rng).0);
+    }
+    levels.into_iter().map(|byte| Observer { level: Level(byte), classes: classes(rng, n) }).collect()
+}
+
+/// One class, few or many.
+fn classes(rng: &mut Rng, n: usize) -> Vec<u8> {
     let class_bound = rng.pick(&[1, 2, 3, n]);
     let numbers: Vec<usize> = (0..n).map(|_| rng.below(class_bound)).collect();
+    by_first_appearance(&numbers)
+}
+
+/// Any part with so many observers.
+fn part_of(rng: &mut Rng, observer_count: usize) -> Part {
+    let n = size(rng, 1, MAX_STATES);
+    let m = size(rng, 0, MAX_EVENTS);
     let events = identifiers(rng, m).into_iter().map(|identifier| event(rng, identifier, n)).collect();
-    Part { observer: level(rng), start: rng.below(n), classes: by_first_appearance(&numbers), events }
+    Part { states: n, start: rng.below(n), events, observers: observers(rng, observer_count, n) }
+}
+
+/// Any part that a record of kind 1 can hold.
+pub fn part(rng: &mut Rng) -> Part {
+    part_of(rng, 1)
+}
+
+/// Any part that a record of kind 2 can hold.
+pub fn several(rng: &mut Rng) -> Part {
+    let count = 2 + rng.below(MAX_OBSERVERS - 1);
+    part_of(rng, count)
+}
+
+/// A part of either sort.
+pub fn any(rng: &mut Rng) -> Part {
+    match rng.below(2) {
+        0 => part(rng),
+        _ => several(rng),
+    }
 }
 
 /// n states, each its own class, and m events that lead from every state to every state.
@@ -96,7 +129,16 @@ pub fn full(n: usize, m: usize) -> Part {
         let identifier = if e == 0 { 0 } else { u16::MAX - (m - 1 - e) as u16 };
         events.push(Event { identifier, kind: Kind::ALL[e % 3], level: Level(0xFF), rows: vec![all(n); n] });
     }
-    Part { observer: Level(0xFF), start: n - 1, classes: (0..n as u8).collect(), events }
+    let observer = Observer { level: Level(0xFF), classes: (0..n as u8).collect() };
+    Part { states: n, start: n - 1, events, observers: vec![observer] }
+}
+
+/// The full part, seen by so many observers.
+pub fn full_for(n: usize, m: usize, observer_count: usize) -> Part {
+    let mut part = full(n, m);
+    let level = |i: usize| Level(0xFF - (observer_count - 1 - i) as u8);
+    part.observers = (0..observer_count).map(|i| Observer { level: level(i), ..part.observers[0].clone() }).collect();
+    part
 }
 
 /// Changes one to three of the fields' bytes, or cuts the end off, or adds to it.

@@ -1,8 +1,11 @@
 //! Reads a table's text. The grammar is in the README; there is one function for each of its rules.
 //! Reading stops at the first fault, which names its line and column and what was expected there.
 
+use crate::kinds::{allow_several, KINDS};
 use crate::level::{Level, MAX_COMPARTMENT, MAX_RANK};
-use crate::part::{by_first_appearance, Event, Kind, Names, Part, Table, MAX_EVENTS, MAX_STATES};
+use crate::part::{
+    by_first_appearance, Event, Kind, Names, Observer, Part, Table, MAX_EVENTS, MAX_OBSERVERS, MAX_STATES,
+};
 use crate::tokens::{not_text, split, Fault, Place, Token, What};
 
 /// The words of the form. None of them can name a state.
@@ -38,9 +41,11 @@ impl States {
     }
 }
 
+/// `most_observers` is how many observers a table may have.
 struct Reader {
     tokens: Vec<Token>,
     next: usize,
+    most_observers: usize,
 }
 
 fn fault<T>(place: Place, message: String) -> Result<T, Fault> {
@@ -72,6 +77,10 @@ fn number_up_to(word: &str, most: usize) -> Option<usize> {
 }
 
 impl Reader {
+    fn new(text: &str, kinds: &[u16]) -> Reader {
+        Reader { tokens: split(text), next: 0, most_observers: if allow_several(kinds) { MAX_OBSERVERS } else { 1 } }
+    }
+
     fn peek(&self) -> &Token {
         &self.tokens[self.next]
     }
@@ -157,12 +166,33 @@ impl Reader {
         }
     }
 
-    /// observer = "observer" level
-    fn observer(&mut self) -> Result<Level, Fault> {
+    /// observer = "observer" level; the level's byte is above that of the observer before it.
+    fn observer(&mut self, before: Option<&Observer>) -> Result<Level, Fault> {
         self.keyword("observer")?;
+        let place = self.peek().place;
         let level = self.level()?;
+        if let Some(before) = before.filter(|before| level.0 <= before.level.0) {
+            let (found, before) = (level.text_and_byte(), before.level.text_and_byte());
+            let expected = format!("a level whose byte is above that of {before}, the one before it (refusal 20)");
+            return fault(place, format!("expected {expected}; found {found}"));
+        }
         self.line_end()?;
         Ok(level)
+    }
+
+    /// The observers behind the first one's classes: { observer classes }
+    fn further_observers(&mut self, states: &States, observers: &mut Vec<Observer>) -> Result<(), Fault> {
+        while self.most_observers > 1 && self.at_word("observer") {
+            if observers.len() == self.most_observers {
+                let most = self.most_observers;
+                let message = format!("expected at most {most} observers (refusal 20), found one more");
+                return fault(self.peek().place, message);
+            }
+            let level = self.observer(observers.last())?;
+            let classes = self.classes(states, &format!(" of the observer {}", level.text_and_byte()))?;
+            observers.push(Observer { level, classes });
+        }
+        Ok(())
     }
 
     /// states = "states" ( number | name { name } )
@@ -244,8 +274,9 @@ impl Reader {
         Ok(start)
     }
 
-    /// classes = "classes" class { class }; classes go on over lines that begin with `{`.
-    fn classes(&mut self, states: &States) -> Result<Vec<u8>, Fault> {
+    /// classes = "classes" class { class }; classes go on over lines that begin with `{`. `whose` says, where it is not
+    /// the first, which observer's they are.
+    fn classes(&mut self, states: &States, whose: &str) -> Result<Vec<u8>, Fault> {
         let place = self.peek().place;
         self.keyword("classes")?;
         let mut group_of = vec![None; states.count];
@@ -257,15 +288,21 @@ impl Reader {
             if groups > 0 && self.peek().what == What::LineEnd {
                 break;
             }
-            self.class(states, groups, &mut group_of)?;
+            self.class(states, whose, groups, &mut group_of)?;
             groups += 1;
         }
         self.line_end()?;
-        numbered(place, &group_of)
+        numbered(place, whose, &group_of)
     }
 
     /// class = "{" state { state } "}"
-    fn class(&mut self, states: &States, group: usize, group_of: &mut [Option<usize>]) -> Result<(), Fault> {
+    fn class(
+        &mut self,
+        states: &States,
+        whose: &str,
+        group: usize,
+        group_of: &mut [Option<usize>],
+    ) -> Result<(), Fault> {
         if self.peek().what != What::Open {
             let wanted = if group == 0 { "'{'" } else { "'{' or the end of the line" };
             return unexpected(self.peek(), wanted);
@@ -276,7 +313,7 @@ impl Reader {
             let place = self.peek().place;
             let s = self.state(states, or)?;
             if group_of[s].is_some() {
-                return fault(place, format!("state {s} stands in the classes twice, expected each state once"));
+                return fault(place, format!("state {s} stands in the classes{whose} twice, expected each state once"));
             }
             group_of[s] = Some(group);
             or = " or '}'";
@@ -285,13 +322,13 @@ impl Reader {
         Ok(())
     }
 
-    /// All events to the end of the file.
-    fn events(&mut self, states: &States, names: &mut Names) -> Result<Vec<Event>, Fault> {
+    /// All events to the end of the file; `or` is what else might stand before the first.
+    fn events(&mut self, states: &States, names: &mut Names, or: &str) -> Result<Vec<Event>, Fault> {
         let mut events: Vec<Event> = Vec::new();
         while self.peek().what != What::FileEnd {
             if !self.at_word("event") {
-                let step = if events.is_empty() { "" } else { "a step such as '0 -> 1', " };
-                return unexpected(self.peek(), &format!("{step}'event' or the end of the file"));
+                let other = if events.is_empty() { or } else { "a step such as '0 -> 1', " };
+                return unexpected(self.peek(), &format!("{other}'event' or the end of the file"));
             }
             if events.len() == MAX_EVENTS {
                 return fault(self.peek().place, format!("expected at most {MAX_EVENTS} events, found one more"));
@@ -377,27 +414,30 @@ impl Reader {
         Ok(row)
     }
 
-    /// table = "part", observer, states, start, classes, { event }
+    /// table = "part", observer, states, start, classes, { observer, classes }, { event }
     fn table(&mut self) -> Result<Table, Fault> {
         self.keyword("part")?;
         self.line_end()?;
-        let observer = self.observer()?;
+        let level = self.observer(None)?;
         let states = self.states()?;
         let start = self.start(&states)?;
-        let classes = self.classes(&states)?;
+        let classes = self.classes(&states, "")?;
+        let mut observers = vec![Observer { level, classes }];
+        self.further_observers(&states, &mut observers)?;
+        let or = if observers.len() < self.most_observers { "'observer', " } else { "" };
         let mut names = Names { states: states.names.clone(), ..Names::default() };
-        let events = self.events(&states, &mut names)?;
-        Ok(Table { part: Part { observer, start, classes, events }, names })
+        let events = self.events(&states, &mut names, or)?;
+        Ok(Table { part: Part { states: states.count, start, events, observers }, names })
     }
 }
 
 /// The class numbers, if each state has a group.
-fn numbered(place: Place, group_of: &[Option<usize>]) -> Result<Vec<u8>, Fault> {
+fn numbered(place: Place, whose: &str, group_of: &[Option<usize>]) -> Result<Vec<u8>, Fault> {
     let mut groups = Vec::new();
     for (s, group) in group_of.iter().enumerate() {
         match group {
             Some(group) => groups.push(*group),
-            None => return fault(place, format!("state {s} stands in no class, expected each state in one")),
+            None => return fault(place, format!("state {s} stands in no class{whose}, expected each state in one")),
         }
     }
     Ok(by_first_appearance(&groups))
@@ -405,16 +445,32 @@ fn numbered(place: Place, group_of: &[Option<usize>]) -> Result<Vec<u8>, Fault> 
 
 /// Reads a table.
 pub fn read(bytes: &[u8]) -> Result<Table, Fault> {
+    read_kinds(bytes, KINDS)
+}
+
+/// Reads a table that has a record of one of these kinds.
+pub fn read_kinds(bytes: &[u8], kinds: &[u16]) -> Result<Table, Fault> {
     if let Some(fault) = not_text(bytes) {
         return Err(fault);
     }
-    let text = String::from_utf8_lossy(bytes);
-    Reader { tokens: split(&text), next: 0 }.table()
+    Reader::new(&String::from_utf8_lossy(bytes), kinds).table()
+}
+
+/// Reads a level alone, as it stands behind `observer`.
+pub fn read_level(text: &str) -> Result<Level, Fault> {
+    let mut reader = Reader::new(text, KINDS);
+    let level = reader.level()?;
+    reader.line_end()?;
+    match reader.peek().what {
+        What::FileEnd => Ok(level),
+        _ => unexpected(reader.peek(), "nothing more"),
+    }
 }
 
 #[cfg(test)]
 mod tests {
     use super::*;
+    use crate::kinds::{ONE, SEVERAL};
     use crate::random::Rng;
     use crate::record;
 
@@ -433,8 +489,30 @@ event 12 internal rank 3 compartments 5 1
   2->0
 ";
 
+    /// A table with three observers.
+    const WATCHED: &str = "\
+part
+observer rank 0 compartments none
+states idle sent full
+start idle
+classes {idle sent full}
+observer rank 1 compartments 0 3
+classes {idle sent} {full}
+observer rank 2 compartments none
+classes
+  {full}
+  {sent}
+  {idle}
+event 7 \"send it\" input rank 2 compartments none
+  idle -> sent full
+";
+
+    fn parse_kinds(text: &str, kinds: &[u16]) -> Result<Table, String> {
+        read_kinds(text.as_bytes(), kinds).map_err(|fault| fault.to_string())
+    }
+
     fn parse(text: &str) -> Result<Table, String> {
-        read(text.as_bytes()).map_err(|fault| fault.to_string())
+        parse_kinds(text, ONE)
     }
 
     /// What is said about GOOD with one piece of its text replaced.
@@ -446,7 +524,8 @@ event 12 internal rank 3 compartments 5 1
     #[test]
     fn a_table() {
         let Table { part, names } = parse(GOOD).unwrap();
-        assert_eq!((part.observer, part.start, part.classes), (Level(0x49), 0, vec![0, 0, 1]));
+        assert_eq!((part.states, part.start), (3, 0));
+        assert_eq!(part.observers, [Observer { level: Level(0x49), classes: vec![0, 0, 1] }]);
         let rows: Vec<Vec<u64>> = part.events.iter().map(|event| event.rows.clone()).collect();
         assert_eq!(rows, [[6, 2, 0], [0, 0, 0], [0, 0, 1]]);
         let heads: Vec<(u16, Kind, u8)> = part.events.iter().map(|e| (e.identifier, e.kind, e.level.0)).collect();
@@ -476,7 +555,7 @@ event 12 internal rank 3 compartments 5 1
     fn the_smallest_table() {
         let text = "part\nobserver rank 0 compartments none\nstates 1\nstart 0\nclasses {0}\n";
         let part = parse(text).unwrap().part;
-        assert_eq!((part.state_count(), part.events.len()), (1, 0));
+        assert_eq!((part.states, part.events.len()), (1, 0));
     }
 
     #[test]
@@ -619,6 +698,117 @@ event 12 internal rank 3 compartments 5 1
         assert_eq!(said("  1 -> 1", "  -> 1"), format!("9:3: {other} '->'"));
     }
 
+    /// What is said about WATCHED with one piece of its text replaced.
+    fn said_watched(old: &str, new: &str) -> String {
+        assert!(WATCHED.contains(old), "{old}");
+        parse_kinds(&WATCHED.replacen(old, new, 1), SEVERAL).unwrap_err()
+    }
+
+    #[test]
+    fn several_observers() {
+        let Table { part, names } = parse_kinds(WATCHED, SEVERAL).unwrap();
+        let columns = [(0x00, [0, 0, 0]), (0x49, [0, 0, 1]), (0x80, [0, 1, 2])];
+        let observers = columns.map(|(byte, classes)| Observer { level: Level(byte), classes: classes.to_vec() });
+        assert_eq!(part.observers, observers);
+        assert_eq!((part.states, part.start, part.events[0].rows.as_slice()), (3, 0, &[6, 0, 0][..]));
+        assert_eq!(names.states, ["idle", "sent", "full"]);
+        assert_eq!(names.event(7), Some("send it"));
+    }
+
+    /// A table with one observer is the same with kind 2 and without it.
+    #[test]
+    fn one_observer_in_any_case() {
+        assert_eq!(parse_kinds(GOOD, SEVERAL), parse(GOOD));
+    }
+
+    /// Without kind 2 a second observer is no line of a table.
+    #[test]
+    fn several_observers_that_are_not_described() {
+        assert_eq!(parse(WATCHED).unwrap_err(), "6:1: expected 'event' or the end of the file, found 'observer'");
+    }
+
+    #[test]
+    fn observers_that_do_not_rise() {
+        let expected = "expected a level whose byte is above that of";
+        let before = "the one before it (refusal 20); found";
+        let (low, middle) = ("rank 0 compartments none (0x00)", "rank 1 compartments 0 3 (0x49)");
+        let same = said_watched("rank 2 compartments none", "rank 1 compartments 3 0");
+        assert_eq!(same, format!("8:10: {expected} {middle}, {before} {middle}"));
+        let falling = said_watched("rank 2 compartments none", "rank 1 compartments 3");
+        assert_eq!(falling, format!("8:10: {expected} {middle}, {before} rank 1 compartments 3 (0x48)"));
+        let second = said_watched("rank 1 compartments 0 3", "rank 0 compartments none");
+        assert_eq!(second, format!("6:10: {expected} {low}, {before} {low}"));
+        let first = said_watched("rank 0", "rank 3");
+        assert_eq!(first, format!("6:10: {expected} rank 3 compartments none (0xC0), {before} {middle}"));
+    }
+
+    /// The bytes rise; the order of levels plays no part.
+    #[test]
+    fn levels_that_are_not_comparable() {
+        let text = WATCHED.replace("rank 0 compartments none", "rank 1 compartments 0");
+        let text = text.replace("rank 1 compartments 0 3", "rank 1 compartments 1");
+        let levels: Vec<u8> = parse_kinds(&text, SEVERAL).unwrap().part.observers.iter().map(|o| o.level.0).collect();
+        assert_eq!(levels, [0x41, 0x42, 0x80]);
+    }
+
+    /// Four observers are read, the fifth is a fault at its line.
+    #[test]
+    fn the_limit_of_observers() {
+        let more = |count: u8| -> String {
+            (0..count).map(|c| format!("observer rank 3 compartments {c}\nclasses {{2 1 0}}\n")).collect()
+        };
+        let text = |count| WATCHED.replace("event 7", &(more(count) + "event 7"));
+        assert_eq!(parse_kinds(&text(1), SEVERAL).unwrap().part.observers.len(), 4);
+        let fault = parse_kinds(&text(2), SEVERAL).unwrap_err();
+        assert_eq!(fault, "15:1: expected at most 4 observers (refusal 20), found one more");
+    }
+
+    #[test]
+    fn other_faults_of_several_observers() {
+        let other = "'observer', 'event' or the end of the file, found";
+        assert_eq!(said_watched("event 7", "7"), format!("13:1: expected {other} '7'"));
+        let full = WATCHED.replace("event 7", "observer rank 3 compartments none\nclasses {0 1 2}\n7");
+        let fault = parse_kinds(&full, SEVERAL).unwrap_err();
+        assert_eq!(fault, "15:1: expected 'event' or the end of the file, found '7'");
+        let found = said_watched("classes {idle sent} {full}", "states 3");
+        assert_eq!(found, "7:1: expected 'classes', found 'states'");
+        assert_eq!(
+            said_watched("0 3", "0 6").split(',').next(),
+            Some("6:32: expected the end of the line or a compartment from 0 to 5")
+        );
+        let mislabelled = "expected 'none', as a level of rank 0 has no compartments (refusal 16), found '0'";
+        assert_eq!(said_watched("rank 1 compartments 0 3", "rank 0 compartments 0"), format!("6:30: {mislabelled}"));
+        let end = said_watched("rank 2 compartments none", "rank 2 compartments none 3");
+        assert_eq!(end, "8:35: expected the end of the line, found '3'");
+        let behind = WATCHED.to_string() + "observer rank 3 compartments none\n";
+        let fault = parse_kinds(&behind, SEVERAL).unwrap_err();
+        assert_eq!(fault, "15:1: expected a state from 0 to 2 or a state's name or 'event', found 'observer'");
+    }
+
+    /// Faults in the classes of a further observer name it.
+    #[test]
+    fn faults_of_further_classes() {
+        let second = "of the observer rank 1 compartments 0 3 (0x49)";
+        let twice = said_watched("{idle sent} {full}", "{idle sent} {full 0}");
+        assert_eq!(twice, format!("7:27: state 0 stands in the classes {second} twice, expected each state once"));
+        let none = said_watched("{idle sent} {full}", "{idle sent}");
+        assert_eq!(none, format!("7:1: state 2 stands in no class {second}, expected each state in one"));
+        let first = said_watched("{idle sent full}", "{idle full}");
+        assert_eq!(first, "5:1: state 1 stands in no class, expected each state in one");
+    }
+
+    #[test]
+    fn a_level_alone() {
+        assert_eq!(read_level(" rank 1  compartments 3 0"), Ok(Level(0x49)));
+        assert_eq!(read_level("rank 0 compartments none\n"), Ok(Level(0)));
+        let said = |text| read_level(text).unwrap_err().message;
+        assert_eq!(said("0x49"), "expected 'rank', found '0x49'");
+        assert_eq!(said("rank 1"), "expected 'compartments', found the end of the line");
+        assert_eq!(said("rank 1 compartments none none"), "expected the end of the line, found 'none'");
+        assert_eq!(said("rank 1 compartments none\nrank"), "expected nothing more, found 'rank'");
+        assert_eq!(said(""), "expected 'rank', found the end of the file");
+    }
+
     /// In tables without names no name is offered.
     #[test]
     fn faults_without_names() {
@@ -640,7 +830,7 @@ event 12 internal rank 3 compartments 5 1
         assert_eq!(said("send it", "send\u{7}it"), format!("7:14: {control} U+0007"));
         assert_eq!(said("# names", "# \u{202E}names"), format!("4:35: {control} U+202E"));
         assert_eq!(said("start idle", "start\ridle"), format!("5:6: {control} U+000D"));
-        let bytes = read(b"part\nobserver \xFF").unwrap_err().to_string();
+        let bytes = read_kinds(b"part\nobserver \xFF", ONE).unwrap_err().to_string();
         assert_eq!(bytes, "2:10: expected text in UTF-8, found the byte 0xFF");
     }
 
@@ -654,21 +844,23 @@ event 12 internal rank 3 compartments 5 1
     /// Every beginning of a text is read or has a fault inside it.
     #[test]
     fn cut_texts() {
-        for end in 0..GOOD.len() {
-            let text = &GOOD[..end];
-            if let Err(fault) = read(text.as_bytes()) {
-                assert!(fault.place.line <= text.matches('\n').count() + 1);
+        for whole in [GOOD, WATCHED] {
+            for end in 0..whole.len() {
+                let text = &whole[..end];
+                if let Err(fault) = read_kinds(text.as_bytes(), SEVERAL) {
+                    assert!(fault.place.line <= text.matches('\n').count() + 1);
+                }
             }
         }
     }
 
-    /// Pieces of the text left out, doubled or swapped: a fault inside the text, or a part that comes back.
-    #[test]
-    fn mangled_texts() {
+    /// Pieces of a text left out, doubled or swapped: a fault inside the text, or a part that comes back.
+    fn mangled(text: &str) {
         let mut rng = Rng::new(7);
         let (mut faults, mut parts) = (0, 0);
+        let lines = text.lines().count();
         for _ in 0..5000 {
-            let mut bytes = GOOD.as_bytes().to_vec();
+            let mut bytes = text.as_bytes().to_vec();
             for _ in 0..=rng.below(2) {
                 let (at, other) = (rng.below(bytes.len()), rng.below(bytes.len()));
                 match rng.below(4) {
@@ -678,18 +870,25 @@ event 12 internal rank 3 compartments 5 1
                     _ => bytes[at] = rng.next() as u8,
                 }
             }
-            match read(&bytes) {
+            match read_kinds(&bytes, SEVERAL) {
                 Ok(table) => {
-                    assert_eq!(read(crate::writer::write(&table.part).as_bytes()).unwrap().part, table.part);
-                    assert_eq!(record::read(&record::write(&table.part)), Ok(table.part));
+                    let text = crate::writer::write(&table.part);
+                    assert_eq!(parse_kinds(&text, SEVERAL).unwrap().part, table.part);
+                    assert_eq!(record::read_kinds(&record::write(&table.part), SEVERAL), Ok(table.part));
                     parts += 1;
                 }
                 Err(fault) => {
-                    assert!(fault.place.line <= 15 && fault.message.contains("expected"), "{fault}");
+                    assert!(fault.place.line <= lines + 3 && fault.message.contains("expected"), "{fault}");
                     faults += 1;
                 }
             }
         }
         assert!(faults > 1000 && parts > 100, "{faults} {parts}");
+    }
+
+    #[test]
+    fn mangled_texts() {
+        mangled(GOOD);
+        mangled(WATCHED);
     }
 }

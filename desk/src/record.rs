@@ -1,18 +1,22 @@
 //! The part record: bytes to a part and back. Document 01, "The part record" and "Refusals out of the input", and
-//! document 02, d. Where a file is not a well-formed record, the first condition that stands in the way is told. The
-//! conditions are tested in the order 1 to 7, 16, 8, each on the whole record.
+//! document 02, d and k. Where a file is not a well-formed record, the first condition that stands in the way is told.
+//! The conditions are tested in the order 1 to 5, 20, 6, 7, 16, 8, each on the whole record; 20 is about kind 2 alone.
 
 use std::fmt;
 
+use crate::kinds::{KINDS, ONE_OBSERVER, SEVERAL_OBSERVERS};
 use crate::level::Level;
-use crate::part::{states_of, Event, Kind, Part, MAX_EVENTS, MAX_STATES};
+use crate::part::{states_of, Event, Kind, Observer, Part, MAX_EVENTS, MAX_OBSERVERS, MAX_STATES};
 
 const HEADER: usize = 6;
-const OBSERVER_AT: usize = 6;
+const FIRST_AT: usize = 6;
 const STATES_AT: usize = 7;
 const START_AT: usize = 8;
 const EVENTS_AT: usize = 9;
-const CLASSES_AT: usize = 10;
+const LIST_AT: usize = 10;
+
+/// The observers of kind 2 by their places.
+const PLACES: [&str; MAX_OBSERVERS] = ["first", "second", "third", "fourth"];
 
 /// Why bytes are not a well-formed record: the condition's number, its place (bytes counted from 0) and words.
 #[derive(Clone, PartialEq, Eq, Debug)]
@@ -46,17 +50,65 @@ fn u64_at(bytes: &[u8], at: usize) -> u64 {
     u64::from_le_bytes(eight)
 }
 
-/// The body's length for n states and m events.
-fn body_length(n: usize, m: usize) -> usize {
-    4 + n + 4 * m + 8 * m * n
+/// Where the fields of a record stand. Behind the header are four bytes: the first, n, the start state and m. Then come
+/// the levels that are listed, the class columns, the entries and the rows.
+struct Layout {
+    kind: u16,
+    observers: usize,
+    n: usize,
+    m: usize,
 }
 
-fn entry_at(n: usize, e: usize) -> usize {
-    CLASSES_AT + n + 4 * e
-}
+impl Layout {
+    /// Kind 1 has its one observer's level as the first byte, kind 2 the number of its observers.
+    fn new(kind: u16, first: u8, n: usize, m: usize) -> Layout {
+        let observers = if kind == SEVERAL_OBSERVERS { first as usize } else { 1 };
+        Layout { kind, observers, n, m }
+    }
 
-fn row_at(n: usize, m: usize, e: usize, s: usize) -> usize {
-    entry_at(n, m) + 8 * (e * n + s)
+    fn lists_observers(&self) -> bool {
+        self.kind == SEVERAL_OBSERVERS
+    }
+
+    fn level_at(&self, observer: usize) -> usize {
+        if self.lists_observers() {
+            LIST_AT + observer
+        } else {
+            FIRST_AT
+        }
+    }
+
+    /// The class columns: one for each observer.
+    fn columns(&self) -> usize {
+        self.observers
+    }
+
+    fn column_at(&self, column: usize) -> usize {
+        let listed = if self.lists_observers() { self.observers } else { 0 };
+        LIST_AT + listed + self.n * column
+    }
+
+    fn entry_at(&self, e: usize) -> usize {
+        self.column_at(self.columns()) + 4 * e
+    }
+
+    fn row_at(&self, e: usize, s: usize) -> usize {
+        self.entry_at(self.m) + 8 * (e * self.n + s)
+    }
+
+    /// The record ends behind its last row.
+    fn body_length(&self) -> usize {
+        self.row_at(self.m, 0) - HEADER
+    }
+
+    /// `2 states and 1 event`; where the observers are listed, their number comes first.
+    fn sizes(&self) -> String {
+        let states_and_events = format!("{} and {}", counted(self.n, "state"), counted(self.m, "event"));
+        match self.lists_observers() {
+            true => format!("{}, {states_and_events}", counted(self.observers, "observer")),
+            false => states_and_events,
+        }
+    }
 }
 
 /// `1 state`, `2 states`.
@@ -64,8 +116,17 @@ fn counted(number: usize, thing: &str) -> String {
     format!("{number} {thing}{}", if number == 1 { "" } else { "s" })
 }
 
-/// Conditions 1 to 3: length and kind.
-fn header(bytes: &[u8]) -> Result<(), Misfit> {
+/// `1`, `1 or 2`, `1, 2 or 3`.
+fn any_of(kinds: &[u16]) -> String {
+    let words: Vec<String> = kinds.iter().map(u16::to_string).collect();
+    match words.split_last() {
+        Some((last, before)) if !before.is_empty() => format!("{} or {last}", before.join(", ")),
+        _ => words.concat(),
+    }
+}
+
+/// Conditions 1 to 3: length and kind. Gives the kind.
+fn header(bytes: &[u8], kinds: &[u16]) -> Result<u16, Misfit> {
     if bytes.len() < HEADER {
         let message = format!("the file has {}, expected 6 or more", counted(bytes.len(), "byte"));
         return misfit(1, bytes.len(), message);
@@ -77,10 +138,10 @@ fn header(bytes: &[u8]) -> Result<(), Misfit> {
         return misfit(2, 0, message);
     }
     let kind = u16_at(bytes, 4);
-    if kind != 1 {
-        return misfit(3, 4, format!("the record's kind is {kind}, expected 1"));
+    if !kinds.contains(&kind) {
+        return misfit(3, 4, format!("the record's kind is {kind}, expected {}", any_of(kinds)));
     }
-    Ok(())
+    Ok(kind)
 }
 
 /// Condition 4: gives the numbers of states and events.
@@ -102,37 +163,69 @@ fn counts(bytes: &[u8]) -> Result<(usize, usize), Misfit> {
     Ok((n, m))
 }
 
-/// Condition 5.
-fn length(bytes: &[u8], n: usize, m: usize) -> Result<(), Misfit> {
-    let (is, needed) = (u32_at(bytes, 0) as usize, body_length(n, m));
+/// Condition 5; for kind 2 with whatever number of observers the record has.
+fn length(bytes: &[u8], layout: &Layout) -> Result<(), Misfit> {
+    let (is, needed) = (u32_at(bytes, 0) as usize, layout.body_length());
     if is != needed {
-        let of = format!("{} and {}", counted(n, "state"), counted(m, "event"));
-        return misfit(5, 0, format!("the length is {is}, but {of} need {needed}"));
+        return misfit(5, 0, format!("the length is {is}, but {} need {needed}", layout.sizes()));
     }
     Ok(())
 }
 
-/// Condition 6: gives the classes.
-fn classes(bytes: &[u8], n: usize) -> Result<Vec<u8>, Misfit> {
+/// Condition 20: gives the observers' levels.
+fn observer_levels(bytes: &[u8], layout: &Layout) -> Result<Vec<Level>, Misfit> {
+    let count = layout.observers;
+    if layout.lists_observers() && !(2..=MAX_OBSERVERS).contains(&count) {
+        return misfit(20, FIRST_AT, format!("the number of observers is {count}, expected 2 to {MAX_OBSERVERS}"));
+    }
+    let mut levels: Vec<Level> = Vec::new();
+    for observer in 0..count {
+        let at = layout.level_at(observer);
+        let level = Level(bytes[at]);
+        if let Some(before) = levels.last().filter(|before| level.0 <= before.0) {
+            let (level, before) = (level.text_and_byte(), before.text_and_byte());
+            return misfit(20, at, format!("observer {level} after {before}, expected a larger byte"));
+        }
+        levels.push(level);
+    }
+    Ok(levels)
+}
+
+/// Condition 6 for the column at an offset; gives its classes. `whose` says which observer's they are.
+fn classes(bytes: &[u8], at: usize, n: usize, whose: &str) -> Result<Vec<u8>, Misfit> {
     let mut next = 0;
     for s in 0..n {
-        let class = bytes[CLASSES_AT + s];
+        let class = bytes[at + s];
         if class > next {
             let expected = if next == 0 { "0".to_string() } else { format!("0 to {next}") };
-            return misfit(6, CLASSES_AT + s, format!("the class of state {s} is {class}, expected {expected}"));
+            return misfit(6, at + s, format!("the class of state {s}{whose} is {class}, expected {expected}"));
         }
         if class == next {
             next += 1;
         }
     }
-    Ok(bytes[CLASSES_AT..CLASSES_AT + n].to_vec())
+    Ok(bytes[at..at + n].to_vec())
+}
+
+/// Conditions 20 and 6: gives the observers with their classes.
+fn observers(bytes: &[u8], layout: &Layout) -> Result<Vec<Observer>, Misfit> {
+    let mut observers = Vec::new();
+    for (column, level) in observer_levels(bytes, layout)?.into_iter().enumerate() {
+        let whose = match layout.lists_observers() {
+            true => format!(" for the observer {}", level.text_and_byte()),
+            false => String::new(),
+        };
+        let classes = classes(bytes, layout.column_at(column), layout.n, &whose)?;
+        observers.push(Observer { level, classes });
+    }
+    Ok(observers)
 }
 
 /// Condition 7: gives the events, still without steps.
-fn entries(bytes: &[u8], n: usize, m: usize) -> Result<Vec<Event>, Misfit> {
+fn entries(bytes: &[u8], layout: &Layout) -> Result<Vec<Event>, Misfit> {
     let mut events: Vec<Event> = Vec::new();
-    for e in 0..m {
-        let at = entry_at(n, e);
+    for e in 0..layout.m {
+        let at = layout.entry_at(e);
         let identifier = u16_at(bytes, at);
         if let Some(before) = events.last() {
             let before = before.identifier;
@@ -149,11 +242,17 @@ fn entries(bytes: &[u8], n: usize, m: usize) -> Result<Vec<Event>, Misfit> {
     Ok(events)
 }
 
-/// Condition 16: the observer's level first, then those of the events.
-fn levels(n: usize, observer: Level, events: &[Event]) -> Result<(), Misfit> {
-    label(OBSERVER_AT, observer, "the observer's level")?;
+/// Condition 16: the observers' levels first, then those of the events.
+fn labels(layout: &Layout, observers: &[Observer], events: &[Event]) -> Result<(), Misfit> {
+    for (i, observer) in observers.iter().enumerate() {
+        let title = match layout.lists_observers() {
+            true => format!("the {} observer's level", PLACES[i]),
+            false => "the observer's level".to_string(),
+        };
+        label(layout.level_at(i), observer.level, &title)?;
+    }
     for (e, event) in events.iter().enumerate() {
-        label(entry_at(n, e) + 3, event.level, &format!("the level of event {}", event.identifier))?;
+        label(layout.entry_at(e) + 3, event.level, &format!("the level of event {}", event.identifier))?;
     }
     Ok(())
 }
@@ -178,29 +277,42 @@ fn row(bytes: &[u8], at: usize, n: usize, identifier: u16, s: usize) -> Result<u
 
 /// Reads a record, or tells the first condition that stands in the way.
 pub fn read(bytes: &[u8]) -> Result<Part, Misfit> {
-    header(bytes)?;
-    let (n, m) = counts(bytes)?;
-    length(bytes, n, m)?;
-    let classes = classes(bytes, n)?;
-    let observer = Level(bytes[OBSERVER_AT]);
-    let mut events = entries(bytes, n, m)?;
-    levels(n, observer, &events)?;
-    for (e, event) in events.iter_mut().enumerate() {
-        for s in 0..n {
-            event.rows.push(row(bytes, row_at(n, m, e, s), n, event.identifier, s)?);
-        }
-    }
-    Ok(Part { observer, start: bytes[START_AT] as usize, classes, events })
+    read_kinds(bytes, KINDS)
 }
 
-/// The record of a part.
+/// Reads a record of one of these kinds.
+pub fn read_kinds(bytes: &[u8], kinds: &[u16]) -> Result<Part, Misfit> {
+    let kind = header(bytes, kinds)?;
+    let (n, m) = counts(bytes)?;
+    let layout = Layout::new(kind, bytes[FIRST_AT], n, m);
+    length(bytes, &layout)?;
+    let observers = observers(bytes, &layout)?;
+    let mut events = entries(bytes, &layout)?;
+    labels(&layout, &observers, &events)?;
+    for (e, event) in events.iter_mut().enumerate() {
+        for s in 0..n {
+            event.rows.push(row(bytes, layout.row_at(e, s), n, event.identifier, s)?);
+        }
+    }
+    Ok(Part { states: n, start: bytes[START_AT] as usize, events, observers })
+}
+
+/// The record of a part: of kind 1 where it has one observer, otherwise of kind 2.
 pub fn write(part: &Part) -> Vec<u8> {
-    let (n, m) = (part.state_count(), part.events.len());
+    let levels: Vec<u8> = part.observers.iter().map(|observer| observer.level.0).collect();
+    let (kind, first, listed) = match levels.as_slice() {
+        [level] => (ONE_OBSERVER, *level, &[][..]),
+        levels => (SEVERAL_OBSERVERS, levels.len() as u8, levels),
+    };
+    let layout = Layout::new(kind, first, part.states, part.events.len());
     let mut bytes = Vec::new();
-    bytes.extend((body_length(n, m) as u32).to_le_bytes());
-    bytes.extend(1u16.to_le_bytes());
-    bytes.extend([part.observer.0, n as u8, part.start as u8, m as u8]);
-    bytes.extend(&part.classes);
+    bytes.extend((layout.body_length() as u32).to_le_bytes());
+    bytes.extend(kind.to_le_bytes());
+    bytes.extend([first, part.states as u8, part.start as u8, part.events.len() as u8]);
+    bytes.extend(listed);
+    for observer in &part.observers {
+        bytes.extend(&observer.classes);
+    }
     for event in &part.events {
         bytes.extend(event.identifier.to_le_bytes());
         bytes.extend([event.kind as u8, event.level.0]);
@@ -216,6 +328,7 @@ pub fn write(part: &Part) -> Vec<u8> {
 #[cfg(test)]
 mod tests {
     use super::*;
+    use crate::kinds::{ONE, SEVERAL};
     use crate::random::{self, Rng};
 
     /// Two states in one class; high input 1 toggles, low output 2 stays.
@@ -227,20 +340,40 @@ mod tests {
         bytes
     }
 
-    fn said(bytes: &[u8]) -> String {
-        match read(bytes) {
+    /// The toggle of kind 2: for the observers 0x00, 0x40 and 0x81, of which the second knows the state.
+    fn watched() -> Vec<u8> {
+        let mut bytes = vec![0x35, 0, 0, 0, 2, 0, 3, 2, 0, 2, 0x00, 0x40, 0x81, 0, 0, 0, 1, 0, 0];
+        bytes.extend(&toggle()[12..]);
+        bytes
+    }
+
+    fn said_of(bytes: &[u8], kinds: &[u16]) -> String {
+        match read_kinds(bytes, kinds) {
             Ok(_) => "well-formed".to_string(),
             Err(misfit) => format!("{} at {}: {}", misfit.condition, misfit.byte, misfit.message),
         }
     }
 
-    /// The toggle with some of its bytes changed.
-    fn toggle_with(changes: &[(usize, u8)]) -> Vec<u8> {
-        let mut bytes = toggle();
+    fn said(bytes: &[u8]) -> String {
+        said_of(bytes, ONE)
+    }
+
+    /// A record with some of its bytes changed.
+    fn changed(mut bytes: Vec<u8>, changes: &[(usize, u8)]) -> Vec<u8> {
         for &(byte, value) in changes {
             bytes[byte] = value;
         }
         bytes
+    }
+
+    /// The toggle with some of its bytes changed.
+    fn toggle_with(changes: &[(usize, u8)]) -> Vec<u8> {
+        changed(toggle(), changes)
+    }
+
+    /// What is said of the toggle of kind 2 with some of its bytes changed.
+    fn watched_with(changes: &[(usize, u8)]) -> String {
+        said_of(&changed(watched(), changes), SEVERAL)
     }
 
     fn said_with(byte: usize, value: u8) -> String {
@@ -255,10 +388,11 @@ mod tests {
     #[test]
     fn the_fields_of_a_record() {
         let part = read(&toggle()).unwrap();
-        assert_eq!((part.observer, part.start, part.classes.as_slice()), (Level(0), 0, &[0, 0][..]));
+        assert_eq!((part.states, part.start), (2, 0));
+        assert_eq!(part.observers, [Observer { level: Level(0), classes: vec![0, 0] }]);
         assert_eq!((part.events[0].identifier, part.events[0].kind), (1, Kind::Input));
         assert_eq!((part.events[1].identifier, part.events[1].kind), (2, Kind::Output));
-        assert!(!part.is_low(&part.events[0]) && part.is_low(&part.events[1]));
+        assert!(!part.observers[0].is_low(&part.events[0]) && part.observers[0].is_low(&part.events[1]));
         assert_eq!(part.events[0].rows, [2, 1]);
         assert_eq!(write(&part), toggle());
     }
@@ -350,32 +484,177 @@ mod tests {
     }
 
     #[test]
+    fn the_fields_of_a_record_of_kind_2() {
+        let part = read_kinds(&watched(), SEVERAL).unwrap();
+        let toggle = read(&toggle()).unwrap();
+        let columns = [(0x00, [0, 0]), (0x40, [0, 1]), (0x81, [0, 0])];
+        let observers = columns.map(|(byte, classes)| Observer { level: Level(byte), classes: classes.to_vec() });
+        assert_eq!(part, Part { observers: observers.to_vec(), ..toggle });
+        assert_eq!(write(&part), watched());
+    }
+
+    /// Records of kind 2 with two and with four observers, one state and no events.
+    #[test]
+    fn other_numbers_of_observers() {
+        let two = [8, 0, 0, 0, 2, 0, 2, 1, 0, 0, 0x00, 0xFF, 0, 0];
+        assert_eq!(write(&read_kinds(&two, SEVERAL).unwrap()), two);
+        let four = [12, 0, 0, 0, 2, 0, 4, 1, 0, 0, 0x40, 0x41, 0x7F, 0x80, 0, 0, 0, 0];
+        assert_eq!(write(&read_kinds(&four, SEVERAL).unwrap()), four);
+    }
+
+    /// Kind 2 is refused with 3 unless it is one of the kinds that are described; other kinds are in any case.
+    #[test]
+    fn the_kinds_that_are_described() {
+        assert_eq!(said_of(&watched(), ONE), "3 at 4: the record's kind is 2, expected 1");
+        assert_eq!(said_of(&watched(), &[2]), "well-formed");
+        assert_eq!(said_of(&toggle(), &[2]), "3 at 4: the record's kind is 1, expected 2");
+        for kind in [0, 3] {
+            let expected = format!("3 at 4: the record's kind is {kind}, expected 1 or 2");
+            assert_eq!(watched_with(&[(4, kind)]), expected);
+        }
+        assert_eq!(said_of(&watched(), &[1, 3, 4]), "3 at 4: the record's kind is 2, expected 1, 3 or 4");
+        assert_eq!(read(&watched()), read_kinds(&watched(), KINDS));
+    }
+
+    #[test]
+    fn conditions_1_2_and_4_of_kind_2() {
+        assert_eq!(said_of(&watched()[..4], SEVERAL), "1 at 4: the file has 4 bytes, expected 6 or more");
+        let two = "2 at 0: the length is 53, but the number of bytes after the first six is 52";
+        assert_eq!(said_of(&watched()[..58], SEVERAL), two);
+        assert_eq!(said_of(&[3, 0, 0, 0, 2, 0, 2, 1, 0], SEVERAL), "4 at 6: the body has 3 bytes, expected 4 or more");
+        assert_eq!(watched_with(&[(7, 0)]), "4 at 7: the number of states is 0, expected 1 to 64");
+        assert_eq!(watched_with(&[(8, 2)]), "4 at 8: the start state is 2, expected a state below 2");
+        assert_eq!(watched_with(&[(9, 33)]), "4 at 9: the number of events is 33, expected 0 to 32");
+    }
+
+    /// The number of observers counts as it stands there, whether 20 allows it or not.
+    #[test]
+    fn condition_5_of_kind_2() {
+        let needs = |count, what: &str, needed| {
+            let expected = format!("5 at 0: the length is 53, but {what}, 2 states and 2 events need {needed}");
+            assert_eq!(watched_with(&[(6, count)]), expected);
+        };
+        needs(0, "0 observers", 44);
+        needs(1, "1 observer", 47);
+        needs(2, "2 observers", 50);
+        needs(4, "4 observers", 56);
+        needs(255, "255 observers", 809);
+    }
+
+    /// A record of kind 2 with one state, no events and so many observers: its length is right.
+    fn of_observers(count: u8) -> Vec<u8> {
+        let mut bytes = ((4 + 2 * count as u32).to_le_bytes()).to_vec();
+        bytes.extend([2, 0, count, 1, 0, 0]);
+        bytes.extend((0..count).map(|i| 0x40 + i % 0x40));
+        bytes.extend(vec![0; count as usize]);
+        bytes
+    }
+
+    #[test]
+    fn condition_20() {
+        for count in 0..=255 {
+            let expected = match count {
+                2..=4 => "well-formed".to_string(),
+                _ => format!("20 at 6: the number of observers is {count}, expected 2 to 4"),
+            };
+            assert_eq!(said_of(&of_observers(count), SEVERAL), expected);
+        }
+        let (low, middle) = ("rank 0 compartments none (0x00)", "rank 1 compartments none (0x40)");
+        let (high, highest) = ("rank 2 compartments 0 (0x81)", "rank 3 compartments none (0xC0)");
+        let larger = "expected a larger byte";
+        assert_eq!(watched_with(&[(11, 0x00)]), format!("20 at 11: observer {low} after {low}, {larger}"));
+        assert_eq!(watched_with(&[(10, 0xC0)]), format!("20 at 11: observer {middle} after {highest}, {larger}"));
+        assert_eq!(watched_with(&[(11, 0x81)]), format!("20 at 12: observer {high} after {high}, {larger}"));
+        assert_eq!(watched_with(&[(12, 0x00)]), format!("20 at 12: observer {low} after {middle}, {larger}"));
+    }
+
+    /// The bytes rise; the order of levels plays no part.
+    #[test]
+    fn levels_that_are_not_comparable() {
+        assert_eq!(watched_with(&[(10, 0x41), (11, 0x80), (12, 0x84)]), "well-formed");
+        assert_eq!(watched_with(&[(11, 0x3F), (12, 0x40)]).split(':').next(), Some("16 at 11"));
+    }
+
+    /// Each column, with the observer named.
+    #[test]
+    fn condition_6_of_kind_2() {
+        let class = "the class of state";
+        let (low, middle) = ("for the observer rank 0 compartments none (0x00)", "rank 1 compartments none (0x40)");
+        assert_eq!(watched_with(&[(13, 1)]), format!("6 at 13: {class} 0 {low} is 1, expected 0"));
+        assert_eq!(watched_with(&[(14, 2)]), format!("6 at 14: {class} 1 {low} is 2, expected 0 to 1"));
+        let middle = format!("for the observer {middle}");
+        assert_eq!(watched_with(&[(15, 9)]), format!("6 at 15: {class} 0 {middle} is 9, expected 0"));
+        assert_eq!(watched_with(&[(16, 2)]), format!("6 at 16: {class} 1 {middle} is 2, expected 0 to 1"));
+        let high = "for the observer rank 2 compartments 0 (0x81)";
+        assert_eq!(watched_with(&[(18, 255)]), format!("6 at 18: {class} 1 {high} is 255, expected 0 to 1"));
+    }
+
+    #[test]
+    fn conditions_7_16_and_8_of_kind_2() {
+        assert_eq!(watched_with(&[(19, 2)]), "7 at 23: identifier 2 after 2, expected a larger one");
+        assert_eq!(watched_with(&[(25, 3)]), "7 at 25: the kind of event 2 is 3, expected 0 to 2");
+        let expected = "expected no compartments at rank 0";
+        let level = |byte, whose: &str, level: &str| format!("16 at {byte}: {whose} is {level}, {expected}");
+        let low = "rank 0 compartments 0 (0x01)";
+        assert_eq!(watched_with(&[(10, 1)]), level(10, "the first observer's level", low));
+        assert_eq!(watched_with(&[(11, 1)]), level(11, "the second observer's level", low));
+        assert_eq!(watched_with(&[(12, 2), (11, 1)]), level(11, "the second observer's level", low));
+        assert_eq!(watched_with(&[(22, 1)]), level(22, "the level of event 1", low));
+        let third = changed(of_observers(4), &[(10, 0), (11, 1), (12, 2), (13, 3)]);
+        assert_eq!(said_of(&third, SEVERAL), level(11, "the second observer's level", low));
+        let eight = "8 at 27: event 1 leads from state 0 to state 2, expected states below 2";
+        assert_eq!(watched_with(&[(27, 6)]), eight);
+        assert_eq!(
+            watched_with(&[(58, 0x80)]),
+            "8 at 58: event 2 leads from state 1 to state 63, expected states below 2"
+        );
+    }
+
+    /// Each later change is about a condition that is tested earlier.
+    #[test]
+    fn the_order_of_the_conditions_of_kind_2() {
+        let mut bytes = watched();
+        let content = [(27, 4, 8), (26, 1, 16), (12, 0x82, 16), (11, 0x01, 16), (25, 3, 7), (18, 9, 6), (13, 1, 6)];
+        let frame = [(12, 1, 20), (6, 4, 5), (8, 2, 4), (5, 1, 3), (0, 0, 2)];
+        for (byte, value, condition) in content.into_iter().chain(frame) {
+            bytes[byte] = value;
+            assert_eq!(read_kinds(&bytes, SEVERAL).unwrap_err().condition, condition);
+        }
+        // A wrong number of observers hides a list that does not rise.
+        let five = changed(of_observers(5), &[(11, 0x40)]);
+        assert_eq!(said_of(&five, SEVERAL), "20 at 6: the number of observers is 5, expected 2 to 4");
+    }
+
+    #[test]
     fn the_extremes() {
         let smallest = [5, 0, 0, 0, 1, 0, 0, 1, 0, 0, 0];
         assert_eq!(write(&read(&smallest).unwrap()), smallest);
         let largest = write(&random::full(64, 32));
         assert_eq!(largest.len(), 16_586);
         assert_eq!(write(&read(&largest).unwrap()), largest);
+        let largest = write(&random::full_for(64, 32, 4));
+        assert_eq!(largest.len(), 16_782);
+        assert_eq!(write(&read_kinds(&largest, SEVERAL).unwrap()), largest);
     }
 
     #[test]
     fn random_records_come_back() {
         let mut rng = Rng::new(1);
-        for _ in 0..500 {
-            let part = random::part(&mut rng);
-            assert_eq!(read(&write(&part)), Ok(part));
+        for _ in 0..1000 {
+            let part = random::any(&mut rng);
+            assert_eq!(read_kinds(&write(&part), SEVERAL), Ok(part));
         }
     }
 
-    /// Any bytes: no panic, and what is read is written back the same.
-    #[test]
-    fn changed_records_come_back_or_misfit() {
+    /// Records of the parts with some bytes changed: how many are read, and how many have each condition. There is no
+    /// panic, and what is read is written back the same.
+    fn damaged(part: fn(&mut Rng) -> Part, kinds: &[u16]) -> (usize, [usize; 21]) {
         let mut rng = Rng::new(2);
-        let (mut read_back, mut refused) = (0, [0; 17]);
+        let (mut read_back, mut refused) = (0, [0; 21]);
         for _ in 0..5000 {
-            let mut bytes = write(&random::part(&mut rng));
+            let mut bytes = write(&part(&mut rng));
             random::damage(&mut rng, &mut bytes);
-            match read(&bytes) {
+            match read_kinds(&bytes, kinds) {
                 Ok(part) => {
                     assert_eq!(write(&part), bytes);
                     read_back += 1;
@@ -383,7 +662,20 @@ mod tests {
                 Err(misfit) => refused[misfit.condition as usize] += 1,
             }
         }
+        (read_back, refused)
+    }
+
+    #[test]
+    fn changed_records_come_back_or_misfit() {
+        let (read_back, refused) = damaged(random::part, ONE);
         let least = [1, 2, 3, 4, 5, 6, 7, 16, 8].map(|condition| refused[condition]).into_iter().min();
-        assert!(read_back > 100 && least > Some(100), "{read_back} {refused:?}");
+        assert!(read_back > 100 && least > Some(100) && refused[20] == 0, "{read_back} {refused:?}");
+    }
+
+    #[test]
+    fn changed_records_of_kind_2_come_back_or_misfit() {
+        let (read_back, refused) = damaged(random::several, SEVERAL);
+        let least = [1, 2, 3, 4, 5, 20, 6, 7, 16, 8].map(|condition| refused[condition]).into_iter().min();
+        assert!(read_back > 100 && least > Some(50), "{read_back} {refused:?}");
     }
 }

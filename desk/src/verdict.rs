@@ -1,7 +1,9 @@
 //! The line that the proved program `verdict` printed: read, held against the part it should be about, put in words.
 //! Nothing here decides a verdict.
 
-use crate::part::{Event, Kind, Part, Table};
+use crate::answers::answer;
+use crate::level::Level;
+use crate::part::{Event, Kind, Observer, Part, Table};
 
 /// A break as the line names it.
 #[derive(Clone, Copy, PartialEq, Eq, Debug)]
@@ -51,8 +53,8 @@ pub fn read(line: &str) -> Result<Verdict, String> {
 }
 
 /// Is a rule about this event? Rule 4 is about silent events: high outputs, and internal events of any level.
-fn concerns(rule: usize, part: &Part, event: &Event) -> bool {
-    let low = part.is_low(event);
+fn concerns(rule: usize, observer: &Observer, event: &Event) -> bool {
+    let low = observer.is_low(event);
     match (rule, event.kind) {
         (1, Kind::Input) => true,
         (2, Kind::Input) => !low,
@@ -65,8 +67,8 @@ fn concerns(rule: usize, part: &Part, event: &Event) -> bool {
 }
 
 /// `high input`, `low output`; an internal event is called just that, since its level plays no part.
-fn kind_words(part: &Part, event: &Event) -> String {
-    let level = if part.is_low(event) { "low" } else { "high" };
+fn kind_words(observer: &Observer, event: &Event) -> String {
+    let level = if observer.is_low(event) { "low" } else { "high" };
     match event.kind {
         Kind::Internal => "internal event".to_string(),
         kind => format!("{level} {}", kind.word()),
@@ -85,7 +87,7 @@ fn fits_rule_1(event: &Event, named: &Break) -> Result<(), String> {
 }
 
 /// Does the part have what the line of a rule from 2 to 5 names?
-fn fits_step(part: &Part, event: &Event, named: &Break) -> Result<(), String> {
+fn fits_step(observer: &Observer, event: &Event, named: &Break) -> Result<(), String> {
     let Break { rule, event: identifier, s, t, u } = *named;
     if !event.leads(s, t) {
         return Err(format!("event {identifier} does not lead from state {s} to state {t}"));
@@ -93,45 +95,84 @@ fn fits_step(part: &Part, event: &Event, named: &Break) -> Result<(), String> {
     if rule == 2 && u != 0 {
         return Err("rule 2 names the state 0 as U".to_string());
     }
-    if rule == 2 && part.same_class(s, t) {
+    if rule == 2 && observer.same_class(s, t) {
         return Err(format!("states {s} and {t} are in the same class"));
     }
-    if rule > 2 && !part.same_class(s, u) {
+    if rule > 2 && !observer.same_class(s, u) {
         return Err(format!("states {s} and {u} are in different classes"));
     }
     Ok(())
 }
 
-fn fits_break(part: &Part, named: &Break) -> Result<(), String> {
+/// Could the line name a break for this observer? Only what it names is looked up. Gives the event.
+fn fits_break<'a>(part: &'a Part, observer: &Observer, named: &Break) -> Result<&'a Event, String> {
     let Some(event) = part.event(named.event) else { return Err(format!("there is no event {}", named.event)) };
-    let last = part.state_count() - 1;
+    let last = part.states - 1;
     if let Some(state) = [named.s, named.t, named.u].into_iter().find(|&state| state > last) {
         return Err(format!("there is no state {state}, the last is {last}"));
     }
-    if !concerns(named.rule, part, event) {
-        let (rule, kind) = (named.rule, kind_words(part, event));
+    if !concerns(named.rule, observer, event) {
+        let (rule, kind) = (named.rule, kind_words(observer, event));
         return Err(format!("rule {rule} is not about the {kind} {}", named.event));
     }
     match named.rule {
-        1 => fits_rule_1(event, named),
-        _ => fits_step(part, event, named),
+        1 => fits_rule_1(event, named)?,
+        _ => fits_step(observer, event, named)?,
+    }
+    Ok(event)
+}
+
+/// Is the named break one for this observer? Beside what the line names, rules 3 to 5 ask for the answers of u.
+fn is_break(part: &Part, observer: &Observer, named: &Break) -> Result<(), String> {
+    let event = fits_break(part, observer, named)?;
+    let Break { rule, event: identifier, t, u, .. } = *named;
+    let answer = if rule > 2 { answer(part, observer, rule, event, [t, u]) } else { None };
+    match answer {
+        Some(state) => Err(format!("state {u} answers event {identifier} by state {state}, in the class of state {t}")),
+        None => Ok(()),
     }
 }
 
-/// Could the line be about this part? Only what it names is looked up; whether it is right is not decided.
-pub fn fits(part: &Part, verdict: &Verdict) -> Result<(), String> {
+/// Why a break is one for no observer: one reason where it is the same for all, else that of each.
+fn for_none(reasons: &[(Level, String)]) -> String {
+    if reasons.iter().all(|(_, why)| *why == reasons[0].1) {
+        return reasons[0].1.clone();
+    }
+    let words: Vec<String> = reasons.iter().map(|(level, why)| format!("{}: {why}", level.text_and_byte())).collect();
+    format!("it names a break for none of the observers; {}", words.join("; "))
+}
+
+/// The observer whose break the line names. The line has no level in it: of several observers it is the first for
+/// which that very break is one. `verdict` tells the first break of the first observer that has any.
+fn concerned<'a>(part: &'a Part, named: &Break) -> Result<&'a Observer, String> {
+    if let [only] = part.observers.as_slice() {
+        return fits_break(part, only, named).map(|_| only);
+    }
+    let mut reasons = Vec::new();
+    for observer in &part.observers {
+        match is_break(part, observer, named) {
+            Ok(()) => return Ok(observer),
+            Err(why) => reasons.push((observer.level, why)),
+        }
+    }
+    Err(for_none(&reasons))
+}
+
+/// Could the line be about this part? Whether it is right is not decided. Gives the observer whose break it names; a
+/// pass names none.
+pub fn fits<'a>(part: &'a Part, verdict: &Verdict) -> Result<Option<&'a Observer>, String> {
     let fit = match verdict {
-        Verdict::Pass => Ok(()),
+        Verdict::Pass => Ok(None),
         Verdict::Refused(_) => Err("the file is a well-formed record or table".to_string()),
-        Verdict::Broken(named) => fits_break(part, named),
+        Verdict::Broken(named) => concerned(part, named).map(Some),
     };
     fit.map_err(|why| format!("the verdict line is not about this part: {why}"))
 }
 
 /// `the high input 7 "send"`
-fn event_words(table: &Table, event: &Event) -> String {
+fn event_words(table: &Table, observer: &Observer, event: &Event) -> String {
     let name = table.names.event(event.identifier).map(|name| format!(" \"{name}\"")).unwrap_or_default();
-    format!("the {} {}{name}", kind_words(&table.part, event), event.identifier)
+    format!("the {} {}{name}", kind_words(observer, event), event.identifier)
 }
 
 /// `s (state 0, idle)`
@@ -141,8 +182,8 @@ fn state_words(table: &Table, role: &str, state: usize) -> String {
 }
 
 /// How the break comes about. The line must fit the part.
-fn broken_words(table: &Table, named: &Break) -> String {
-    let it = table.part.event(named.event).map(|event| event_words(table, event)).unwrap_or_default();
+fn broken_words(table: &Table, observer: &Observer, named: &Break) -> String {
+    let it = table.part.event(named.event).map(|event| event_words(table, observer, event)).unwrap_or_default();
     let s = state_words(table, "s", named.s);
     let t = state_words(table, "t", named.t);
     let u = state_words(table, "u", named.u);
@@ -160,18 +201,25 @@ fn broken_words(table: &Table, named: &Break) -> String {
     }
 }
 
-/// A verdict in words. The line must fit the part.
-pub fn words(table: &Table, verdict: &Verdict) -> String {
+/// A verdict in words. The line must fit the part, and a break the observer, which is named where there are several.
+pub fn words(table: &Table, observer: &Observer, verdict: &Verdict) -> String {
+    let several = table.part.has_several_observers();
     match verdict {
+        Verdict::Pass if several => "The verdict given: pass, for each observer.".to_string(),
         Verdict::Pass => "The verdict given: pass.".to_string(),
         Verdict::Refused(number) => format!("The verdict given: refused {number}."),
-        Verdict::Broken(named) => format!("Rule {} is broken: {}", named.rule, broken_words(table, named)),
+        Verdict::Broken(named) => {
+            let level = observer.level.text_and_byte();
+            let whose = if several { format!(" for the observer {level}") } else { String::new() };
+            format!("Rule {} is broken{whose}: {}", named.rule, broken_words(table, observer, named))
+        }
     }
 }
 
 #[cfg(test)]
 mod tests {
     use super::*;
+    use crate::kinds::SEVERAL;
     use crate::reader;
 
     /// Event 1 is a high input, 2 a low one, 3 a high output, 4 a low one; 5 and 6 are internal, 5 at a low level.
@@ -199,7 +247,7 @@ event 6 \"turn\" internal rank 2 compartments none
     }
 
     fn fit(line: &str) -> Result<(), String> {
-        fits(&table().part, &read(line).unwrap())
+        fits(&table().part, &read(line).unwrap()).map(|_| ())
     }
 
     fn misfit(line: &str) -> String {
@@ -209,7 +257,7 @@ event 6 \"turn\" internal rank 2 compartments none
 
     fn in_words(line: &str) -> String {
         fit(line).unwrap();
-        words(&table(), &read(line).unwrap())
+        words(&table(), &table().part.observers[0], &read(line).unwrap())
     }
 
     #[test]
@@ -285,7 +333,8 @@ event 6 \"turn\" internal rank 2 compartments none
     #[test]
     fn verdicts_in_words() {
         assert_eq!(in_words("pass"), "The verdict given: pass.");
-        assert_eq!(words(&table(), &Verdict::Refused(16)), "The verdict given: refused 16.");
+        let refused = words(&table(), &table().part.observers[0], &Verdict::Refused(16));
+        assert_eq!(refused, "The verdict given: refused 16.");
         let one =
             "Rule 1 is broken: the low input 2 has no step from s (state 1, b); inputs need a step from each state.";
         assert_eq!(in_words("rule 1 event 2 from 1 to 0 other 0"), one);
@@ -307,5 +356,111 @@ event 6 \"turn\" internal rank 2 compartments none
             in_words("rule 5 event 4 from 0 to 2 other 1"),
             format!("Rule 5 is broken: the low output 4 {from} {five}")
         );
+    }
+    /// Event 3 is silent for the first observer and seen by the others: only there it helps b to answer 4 and 5.
+    const WATCHED: &str = "part
+observer rank 0 compartments none
+states a b c
+start a
+classes {a b} {c}
+observer rank 1 compartments none
+classes {a b} {c}
+observer rank 2 compartments none
+classes {a} {b} {c}
+event 1 input rank 2 compartments none
+  a -> c
+event 2 input rank 0 compartments none
+  a -> c
+  b -> b
+event 3 output rank 1 compartments none
+  b -> a
+event 4 \"out\" output rank 0 compartments none
+  a -> c
+event 5 internal rank 3 compartments none
+  a -> c
+";
+
+    fn watched(text: &str) -> Table {
+        reader::read_kinds(text.as_bytes(), SEVERAL).unwrap()
+    }
+
+    /// The byte of the observer whose break a line names, or why there is none.
+    fn told(text: &str, line: &str) -> Result<u8, String> {
+        let table = watched(text);
+        let fit = fits(&table.part, &read(line).unwrap());
+        let fit = fit.map(|observer| observer.unwrap().level.0);
+        fit.map_err(|why| why.strip_prefix("the verdict line is not about this part: ").unwrap().to_string())
+    }
+
+    #[test]
+    fn the_first_observer_with_that_break() {
+        assert_eq!(told(WATCHED, "rule 1 event 2 from 2 to 0 other 0"), Ok(0x00));
+        assert_eq!(told(WATCHED, "rule 2 event 1 from 0 to 2 other 0"), Ok(0x00));
+        let coarse = WATCHED.replacen("{a b} {c}", "{a b c}", 1);
+        assert_eq!(told(&coarse, "rule 2 event 1 from 0 to 2 other 0"), Ok(0x40));
+        assert_eq!(told(WATCHED, "rule 3 event 2 from 0 to 2 other 1"), Ok(0x00));
+        assert_eq!(told(&coarse, "rule 3 event 2 from 0 to 2 other 1"), Ok(0x40));
+        assert_eq!(told(&coarse, "rule 3 event 2 from 0 to 2 other 2"), Ok(0x00));
+    }
+
+    /// What the line names fits the first observer too, but for it b has an answer.
+    #[test]
+    fn a_break_that_is_answered_for_the_first_observer() {
+        assert_eq!(told(WATCHED, "rule 4 event 5 from 0 to 2 other 1"), Ok(0x40));
+        assert_eq!(told(WATCHED, "rule 5 event 4 from 0 to 2 other 1"), Ok(0x40));
+        let high = WATCHED.replace("event 3 output rank 1", "event 3 output rank 0");
+        assert_eq!(told(&high, "rule 4 event 5 from 0 to 2 other 1"), Ok(0x00));
+        assert_eq!(told(&high, "rule 5 event 4 from 0 to 2 other 1"), Ok(0x00));
+        let input = WATCHED.replace("event 3 output", "event 3 input");
+        assert_eq!(told(&input, "rule 4 event 5 from 0 to 2 other 1"), Ok(0x00));
+    }
+
+    #[test]
+    fn a_break_for_no_observer() {
+        assert_eq!(told(WATCHED, "rule 1 event 9 from 0 to 0 other 0").unwrap_err(), "there is no event 9");
+        let step = "event 4 does not lead from state 1 to state 2";
+        assert_eq!(told(WATCHED, "rule 5 event 4 from 1 to 2 other 0").unwrap_err(), step);
+        let kinds = "it names a break for none of the observers; \
+                     rank 0 compartments none (0x00): event 3 does not lead from state 0 to state 1; \
+                     rank 1 compartments none (0x40): rule 4 is not about the low output 3; \
+                     rank 2 compartments none (0x80): rule 4 is not about the low output 3";
+        assert_eq!(told(WATCHED, "rule 4 event 3 from 0 to 1 other 1").unwrap_err(), kinds);
+        let answered = WATCHED.replace(
+            "rank 0 compartments none\n  a -> c\nevent 5",
+            "rank 0 compartments none\n  a -> c\n  b -> c\nevent 5",
+        );
+        let answer = "it names a break for none of the observers; \
+                      rank 0 compartments none (0x00): state 1 answers event 4 by state 2, in the class of state 2; \
+                      rank 1 compartments none (0x40): state 1 answers event 4 by state 2, in the class of state 2; \
+                      rank 2 compartments none (0x80): states 0 and 1 are in different classes";
+        assert_eq!(told(&answered, "rule 5 event 4 from 0 to 2 other 1").unwrap_err(), answer);
+    }
+
+    /// With one observer it is not asked whether u has an answer.
+    #[test]
+    fn only_one_observer() {
+        let one = WATCHED.replace("observer rank 1 compartments none\nclasses {a b} {c}\n", "");
+        let one = one.replace("observer rank 2 compartments none\nclasses {a} {b} {c}\n", "");
+        assert_eq!(told(&one, "rule 5 event 4 from 0 to 2 other 1"), Ok(0x00));
+        assert_eq!(told(&one, "rule 4 event 5 from 0 to 2 other 1"), Ok(0x00));
+    }
+
+    #[test]
+    fn the_observer_in_words() {
+        let table = watched(WATCHED);
+        let given = read("rule 5 event 4 from 0 to 2 other 1").unwrap();
+        let observer = fits(&table.part, &given).unwrap().unwrap();
+        let five =
+            "Rule 5 is broken for the observer rank 1 compartments none (0x40): the low output 4 \"out\" leads from \
+                    s (state 0, a) to t (state 2, c). But u (state 1, b) is in the class of s, and silent steps, this \
+                    output and silent steps lead from u to no state of t's class.";
+        assert_eq!(words(&table, observer, &given), five);
+        let given = read("rule 2 event 1 from 0 to 2 other 0").unwrap();
+        let observer = fits(&table.part, &given).unwrap().unwrap();
+        let two = "Rule 2 is broken for the observer rank 0 compartments none (0x00): the high input 1 leads from ";
+        assert!(words(&table, observer, &given).starts_with(two));
+        assert_eq!(fits(&table.part, &Verdict::Pass), Ok(None));
+        let pass = words(&table, &table.part.observers[0], &Verdict::Pass);
+        assert_eq!(pass, "The verdict given: pass, for each observer.");
     }
 }

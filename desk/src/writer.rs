@@ -1,6 +1,6 @@
 //! Writes a part as canonical text: numbers for states, classes by their smallest state, all else ascending.
 
-use crate::part::{states_of, Event, Part};
+use crate::part::{states_of, Event, Observer, Part};
 
 /// Classes that make a longer line stand one to a line.
 const WIDTH: usize = 80;
@@ -15,8 +15,8 @@ pub fn class(states: &[usize]) -> String {
     format!("{{{}}}", joined(states))
 }
 
-fn classes(part: &Part) -> String {
-    let groups: Vec<String> = part.groups().iter().map(|group| class(group)).collect();
+fn classes(observer: &Observer) -> String {
+    let groups: Vec<String> = observer.groups().iter().map(|group| class(group)).collect();
     let line = format!("classes {}\n", groups.join(" "));
     if line.len() <= WIDTH || groups.len() == 1 {
         return line;
@@ -37,10 +37,13 @@ fn event(event: &Event) -> String {
 /// The canonical text of a part.
 pub fn write(part: &Part) -> String {
     let mut text = String::from("part\n");
-    text.push_str(&format!("observer {}\n", part.observer.text()));
-    text.push_str(&format!("states {}\n", part.state_count()));
-    text.push_str(&format!("start {}\n", part.start));
-    text.push_str(&classes(part));
+    for (i, observer) in part.observers.iter().enumerate() {
+        text.push_str(&format!("observer {}\n", observer.level.text()));
+        if i == 0 {
+            text.push_str(&format!("states {}\nstart {}\n", part.states, part.start));
+        }
+        text.push_str(&classes(observer));
+    }
     for one in &part.events {
         text.push_str(&event(one));
     }
@@ -53,6 +56,7 @@ mod tests {
     use std::path::PathBuf;
 
     use super::*;
+    use crate::kinds::SEVERAL;
     use crate::random::{self, Rng};
     use crate::{reader, record};
 
@@ -70,8 +74,45 @@ event 12 internal rank 3 compartments 1 5
   2 -> 0
 ";
 
+    /// The low output 2 stays; the input 1 toggles between two states that only the second observer tells apart.
+    const SEVERAL_CANONICAL: &str = "\
+part
+observer rank 0 compartments none
+states 2
+start 1
+classes {0 1}
+observer rank 1 compartments 0
+classes {0} {1}
+event 1 input rank 1 compartments none
+  0 -> 1
+  1 -> 0
+event 2 output rank 0 compartments none
+  0 -> 0
+  1 -> 1
+";
+
+    /// Its record, byte by byte.
+    const SEVERAL_RECORD: [u8; 56] = [
+        0x32, 0, 0, 0, // 50 = 4 + 2 + 2 * 2 + 4 * 2 + 8 * 2 * 2
+        2, 0, // kind 2
+        2, 2, 1, 2, // observers, states, start, events
+        0x00, 0x41, // levels
+        0, 0, // classes of the first
+        0, 1, // classes of the second
+        1, 0, 0, 0x40, // input 1
+        2, 0, 1, 0x00, // output 2
+        2, 0, 0, 0, 0, 0, 0, 0, // 1 from 0
+        1, 0, 0, 0, 0, 0, 0, 0, // 1 from 1
+        1, 0, 0, 0, 0, 0, 0, 0, // 2 from 0
+        2, 0, 0, 0, 0, 0, 0, 0, // 2 from 1
+    ];
+
     fn read(text: &str) -> Part {
-        reader::read(text.as_bytes()).unwrap().part
+        reader::read_kinds(text.as_bytes(), SEVERAL).unwrap().part
+    }
+
+    fn read_record(bytes: &[u8]) -> Part {
+        record::read_kinds(bytes, SEVERAL).unwrap()
     }
 
     /// Text and back, and from there to the same bytes.
@@ -79,8 +120,7 @@ event 12 internal rank 3 compartments 1 5
         let text = write(part);
         assert_eq!(&read(&text), part);
         let bytes = record::write(part);
-        let back = record::read(&bytes).unwrap();
-        assert_eq!(write(&back), text);
+        assert_eq!(write(&read_record(&bytes)), text);
         assert_eq!(record::write(&read(&text)), bytes);
     }
 
@@ -101,15 +141,51 @@ event 12 internal rank 3 compartments 1 5
     }
 
     #[test]
+    fn the_text_and_the_record_of_two_observers() {
+        assert_eq!(record::write(&read(SEVERAL_CANONICAL)), SEVERAL_RECORD);
+        assert_eq!(write(&read_record(&SEVERAL_RECORD)), SEVERAL_CANONICAL);
+        round_trip(&read(SEVERAL_CANONICAL));
+    }
+
+    /// With each further observer the text has two lines more, and the record a level and a column.
+    #[test]
+    fn three_and_four_observers() {
+        let mut text = SEVERAL_CANONICAL.to_string();
+        let mut bytes = SEVERAL_RECORD.to_vec();
+        let further = [("rank 2 compartments none", 0x80, "{0} {1}", 1), ("rank 3 compartments 1 5", 0xE2, "{0 1}", 0)];
+        for (i, (level, byte, classes, last_class)) in further.into_iter().enumerate() {
+            text = text.replace("event 1", &format!("observer {level}\nclasses {classes}\nevent 1"));
+            (bytes[0], bytes[6]) = (bytes[0] + 3, bytes[6] + 1);
+            bytes.insert(12 + i, byte);
+            let columns_end = 12 + i + 1 + 2 * (2 + i);
+            bytes.splice(columns_end..columns_end, [0, last_class]);
+            assert_eq!(record::write(&read(&text)), bytes);
+            assert_eq!(write(&read_record(&bytes)), text);
+            round_trip(&read(&text));
+        }
+        assert_eq!(bytes[..24], [0x38, 0, 0, 0, 2, 0, 4, 2, 1, 2, 0, 0x41, 0x80, 0xE2, 0, 0, 0, 1, 0, 1, 0, 0, 1, 0]);
+    }
+
+    /// A part with one observer is of kind 1, also where there were more.
+    #[test]
+    fn one_observer_is_of_kind_1() {
+        let mut part = read(SEVERAL_CANONICAL);
+        part.observers.truncate(1);
+        let lines = "observer rank 1 compartments 0\nclasses {0} {1}\n";
+        assert_eq!(write(&part), SEVERAL_CANONICAL.replace(lines, ""));
+        assert_eq!(record::write(&part)[..12], [0x2E, 0, 0, 0, 1, 0, 0, 2, 1, 2, 0, 0]);
+    }
+
+    #[test]
     fn many_classes_stand_one_to_a_line() {
         let mut part = random::full(20, 0);
         assert!(write(&part).contains("\nclasses\n  {0}\n  {1}\n"));
         round_trip(&part);
-        part.classes = vec![0; 20];
+        part.observers[0].classes = vec![0; 20];
         assert!(write(&part).contains("\nclasses {0 1 2 3 "));
         round_trip(&part);
         let mut part = random::full(64, 0);
-        part.classes = vec![0; 64];
+        part.observers[0].classes = vec![0; 64];
         round_trip(&part);
     }
 
@@ -119,7 +195,7 @@ event 12 internal rank 3 compartments 1 5
         assert!(records.len() >= 3);
         for path in records {
             let bytes = fs::read(path).unwrap();
-            let part = record::read(&bytes).unwrap();
+            let part = read_record(&bytes);
             assert_eq!(record::write(&read(&write(&part))), bytes);
             round_trip(&part);
         }
@@ -130,28 +206,31 @@ event 12 internal rank 3 compartments 1 5
         let tables = files("examples", "table");
         assert!(tables.len() >= 7);
         for path in tables {
-            round_trip(&reader::read(&fs::read(path).unwrap()).unwrap().part);
+            round_trip(&read(&fs::read_to_string(path).unwrap()));
         }
     }
 
     #[test]
     fn the_extremes_come_back() {
         for (n, m) in [(1, 0), (1, 1), (1, 32), (64, 0), (64, 1), (64, 32)] {
-            round_trip(&random::full(n, m));
+            for observer_count in 1..=4 {
+                round_trip(&random::full_for(n, m, observer_count));
+            }
         }
     }
 
     #[test]
     fn random_parts_come_back() {
         let mut rng = Rng::new(5);
-        let mut limits = [0; 6];
+        let mut limits = [0; 10];
         for _ in 0..1500 {
-            let part = random::part(&mut rng);
+            let part = random::any(&mut rng);
             round_trip(&part);
-            let (n, m) = (part.state_count(), part.events.len());
+            let (n, m) = (part.states, part.events.len());
             let ends = [n == 1 && m == 0, n == 64, m == 32, n == 64 && m == 32];
             let identifiers = [part.event(0).is_some(), part.event(u16::MAX).is_some()];
-            for (count, came) in limits.iter_mut().zip(ends.into_iter().chain(identifiers)) {
+            let observers = [1, 2, 3, 4].map(|count| part.observers.len() == count);
+            for (count, came) in limits.iter_mut().zip(ends.into_iter().chain(identifiers).chain(observers)) {
                 *count += came as usize;
             }
         }

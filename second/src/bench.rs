@@ -101,6 +101,7 @@ mod tests {
     use super::*;
     use crate::examples;
     use crate::make;
+    use crate::record::described::describe_lists;
     use crate::rng::Rng;
     use crate::shelf;
 
@@ -118,10 +119,21 @@ mod tests {
     /// Demand 3, first half: shelf and bench agree on every list of calls tried.
     #[test]
     fn shelf_and_bench_agree() {
-        let mut rng = Rng::new(31);
+        agree_on(31, make::calls);
+    }
+
+    /// The same with parts of several observers.
+    #[test]
+    fn shelf_and_bench_agree_on_lists() {
+        let _before = describe_lists();
+        agree_on(32, make::calls_on_lists);
+    }
+
+    fn agree_on(seed: u64, made: fn(&mut Rng, usize) -> Vec<Call>) {
+        let mut rng = Rng::new(seed);
         for _ in 0..150 {
             let capacity = rng.range(6, 3000);
-            let calls = make::calls(&mut rng, 12);
+            let calls = made(&mut rng, 12);
             let mut bytes = rng.bytes(capacity);
             let mut answers = vec![shelf::clear(&mut bytes)];
             for call in &calls {

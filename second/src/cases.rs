@@ -3,9 +3,10 @@
 use crate::category::{self, Tally};
 use crate::category_internal;
 use crate::category_label::{self, BAD_LEVELS, GOOD_LEVELS};
+use crate::category_list;
 use crate::check;
 use crate::make::{self, Wanted};
-use crate::record::{self, ORDER};
+use crate::record::{self, order, FIRST_AT, MOST_LISTED, STATE_COUNT_AT};
 use crate::rng::Rng;
 
 /// How many inputs a collection may try before it gives up; a run then fails for want of a category.
@@ -35,22 +36,34 @@ fn tally_of(names: &[String], minimum: usize) -> Tally {
     tally
 }
 
-/// Records for refusals 1 to 7, 16 and 8, each by a small damage to a passing record.
+/// Records for each refusal of a record, each by a small damage to a passing record.
 pub fn refused(rng: &mut Rng, minimum: usize) -> Vec<Vec<u8>> {
     let mut tally = tally_of(&category::refused_names(), minimum);
     let mut kept = Vec::new();
+    let order = order();
     for round in 0..MOST_TRIES {
         if tally.too_few().is_empty() {
             break;
         }
         let n = if rng.chance(1, 10) { rng.range(9, 64) } else { rng.range(1, 8) };
         let m = if rng.chance(1, 10) { rng.range(7, 32) } else { rng.range(0, 6) };
-        let mut bytes = record::write(&make::passing_of_size(rng, n, m));
-        make::damage(rng, &mut bytes, ORDER[round % ORDER.len()]);
+        let refusal = order[round % order.len()];
+        let mut bytes = record::write(&passing_for(rng, n, m, refusal == 20));
+        make::damage(rng, &mut bytes, refusal);
         let names = category::of_record(&bytes);
         keep_if_wanted(&mut tally, &mut kept, bytes, &names);
     }
     kept
+}
+
+/// A passing part of this size, for one observer or for several.
+fn passing_for(rng: &mut Rng, n: usize, m: usize, several: bool) -> record::Part {
+    if several {
+        let count = make::any_count(rng);
+        make::list_of_size(rng, n, m, count)
+    } else {
+        make::passing_of_size(rng, n, m)
+    }
 }
 
 /// Records for the categories of levels: each bad level alone, then bad ones at each place.
@@ -98,7 +111,7 @@ fn one_mislabelled(rng: &mut Rng, round: usize) -> Vec<u8> {
     }
     let mut bytes = record::write(&part);
     for place in whose {
-        let level = if is_good { rng.pick(&GOOD_LEVELS) } else { make::bad_level(rng, part.observer) };
+        let level = if is_good { rng.pick(&GOOD_LEVELS) } else { make::bad_level(rng, part.observers[0].level) };
         make::label(&mut bytes, place, level);
     }
     if !is_good && rng.chance(1, 3) {
@@ -126,26 +139,39 @@ pub type Reasons = (u32, Option<u32>);
 /// Every two reasons.
 pub fn each_two_reasons() -> Vec<Reasons> {
     let mut reasons = Vec::new();
-    for earlier in 0..ORDER.len() {
-        for later in earlier + 1..ORDER.len() {
-            reasons.push((ORDER[earlier], Some(ORDER[later])));
+    let order = order();
+    for earlier in 0..order.len() {
+        for later in earlier + 1..order.len() {
+            reasons.push((order[earlier], Some(order[later])));
         }
-        reasons.push((ORDER[earlier], None));
+        reasons.push((order[earlier], None));
     }
     reasons
 }
 
 /// The refusals behind which another one can come.
-pub fn earlier_refusals() -> &'static [u32] {
-    &ORDER[..ORDER.len() - 1]
+pub fn earlier_refusals() -> Vec<u32> {
+    let mut order = order();
+    order.pop();
+    order
 }
 
-/// Two damages at once, with the reasons that are meant.
+/// Two damages at once, with the reasons that are meant. Refusal 20 needs several observers.
 pub fn twice_damaged(rng: &mut Rng) -> (Vec<u8>, Reasons) {
-    let (earlier, later) = rng.pick(&each_two_reasons());
+    let reasons = rng.pick(&each_two_reasons());
+    (damaged_for(rng, reasons, reasons.0 == 20 || reasons.1 == Some(20)), reasons)
+}
+
+/// The same on a record of several observers, whatever the reasons.
+pub fn twice_damaged_list(rng: &mut Rng) -> (Vec<u8>, Reasons) {
+    let reasons = rng.pick(&each_two_reasons());
+    (damaged_for(rng, reasons, true), reasons)
+}
+
+fn damaged_for(rng: &mut Rng, (earlier, later): Reasons, several: bool) -> Vec<u8> {
     let n = rng.range(2, 6);
     let m = rng.range(2, 5);
-    let mut part = make::passing_of_size(rng, n, m);
+    let mut part = passing_for(rng, n, m, several);
     if later.is_none() {
         part = make::changed_steps(rng, &part);
     }
@@ -154,7 +180,7 @@ pub fn twice_damaged(rng: &mut Rng) -> (Vec<u8>, Reasons) {
         make::damage(rng, &mut bytes, number);
     }
     make::damage(rng, &mut bytes, earlier);
-    (bytes, (earlier, later))
+    bytes
 }
 
 /// Records for each rule as the first break, at first, middle and last places, and at the boundaries.
@@ -294,6 +320,101 @@ fn one_with_internal_events(rng: &mut Rng, round: usize) -> record::Part {
     make::with_quiet_events_internal(rng, &part)
 }
 
+/// Records for the categories of lists of observers; none before kind 2 is described.
+pub fn lists(rng: &mut Rng, minimum: usize) -> Vec<Vec<u8>> {
+    let mut tally = Tally::new();
+    for name in category_list::names() {
+        tally.need(&name, category_list::least_of(&name, minimum));
+    }
+    let mut kept = Vec::new();
+    for round in 0..MOST_TRIES {
+        if tally.too_few().is_empty() {
+            break;
+        }
+        let bytes = if round % 20 == 0 && tally.lacks(category_list::LARGEST) {
+            record::write(&make::staying_list(rng, 64, 32, MOST_LISTED))
+        } else {
+            one_list(rng, round)
+        };
+        let names = category_list::of_record(&bytes, check::check(&bytes));
+        keep_if_wanted(&mut tally, &mut kept, bytes, &names);
+    }
+    kept
+}
+
+/// A record of kind 2: passing, breaking, or damaged in one way or two.
+fn one_list(rng: &mut Rng, round: usize) -> Vec<u8> {
+    let turn = round / 16;
+    let count = [4, 2, 3, 4][turn % 4];
+    let small = |rng: &mut Rng| record::write(&make::list_of_size(rng, 3, 3, count));
+    match round % 16 {
+        0 => record::write(&make::any_list(rng)),
+        1 => {
+            let (n, m) = if rng.chance(1, 2) { (1, rng.range(0, 4)) } else { (rng.range(1, 6), 0) };
+            record::write(&make::list_of_size(rng, n, m, count))
+        }
+        2 => record::write(&make::breaking_list(rng)),
+        3..=7 => {
+            let i = turn % count;
+            let rule = 2 + (turn / 4) as u32 % 4;
+            match make::breaking_list_at(rng, rule, i, count) {
+                Some(part) => record::write(&part),
+                None => record::write(&make::breaking_list(rng)),
+            }
+        }
+        8 => twice_damaged_list(rng).0,
+        9 => with_raw_count(rng),
+        10 => {
+            let mut bytes = small(rng);
+            make::misnumber(rng, &mut bytes, turn / 4 % count);
+            bytes
+        }
+        11 => {
+            let mut bytes = small(rng);
+            for i in 0..count {
+                make::misnumber(rng, &mut bytes, i);
+            }
+            if rng.chance(1, 2) {
+                make::damage_list(rng, &mut bytes);
+            }
+            bytes
+        }
+        12 => {
+            let mut bytes = small(rng);
+            make::mislabel_list(rng, &mut bytes);
+            if rng.chance(1, 6) {
+                make::damage_list(rng, &mut bytes);
+            }
+            bytes
+        }
+        13 => {
+            let mut bytes = small(rng);
+            make::damage(rng, &mut bytes, [4, 5, 7, 16, 8][turn % 5]);
+            bytes
+        }
+        14 => {
+            let mut bytes = small(rng);
+            make::damage_list(rng, &mut bytes);
+            bytes
+        }
+        _ => {
+            let mut bytes = record::write(&make::breaking_list(rng));
+            make::damage_list(rng, &mut bytes);
+            bytes
+        }
+    }
+}
+
+/// A record of kind 2 with another count, and all else as it was, now and then with n out of range.
+fn with_raw_count(rng: &mut Rng) -> Vec<u8> {
+    let mut bytes = record::write(&make::any_list(rng));
+    bytes[FIRST_AT] = if rng.chance(1, 2) { rng.pick(&[0, 1, 2, 3, 4, 5, 255]) } else { rng.byte() };
+    if rng.chance(1, 4) {
+        bytes[STATE_COUNT_AT] = rng.pick(&[0, 65, 255]);
+    }
+    bytes
+}
+
 /// Records on which a wrong reading of the rules would give another verdict.
 pub fn misread(rng: &mut Rng, minimum: usize) -> Vec<Vec<u8>> {
     let names: Vec<String> = category::WRONG_READINGS.iter().map(|name| name.to_string()).collect();
@@ -330,6 +451,7 @@ pub fn misread(rng: &mut Rng, minimum: usize) -> Vec<Vec<u8>> {
 #[cfg(test)]
 mod tests {
     use super::*;
+    use crate::record::described::{describe, describe_lists};
 
     fn fills(records: &[Vec<u8>], names: &[String], minimum: usize) {
         let mut tally = tally_of(names, minimum);
@@ -356,6 +478,51 @@ mod tests {
         fills(&internal(&mut rng, 5), &category_internal::names(), 5);
         let quiet_names = [category::QUIET_IGNORED.to_string(), category::QUIET_REMOVED.to_string()];
         fills(&quiet(&mut rng, 5), &quiet_names, 5);
+    }
+
+    #[test]
+    fn lists_fill_their_categories() {
+        let _before = describe_lists();
+        let mut rng = Rng::new(69);
+        let mut tally = Tally::new();
+        for name in category_list::names() {
+            tally.need(&name, category_list::least_of(&name, 5));
+        }
+        for bytes in lists(&mut rng, 5) {
+            for name in category_list::of_record(&bytes, check::check(&bytes)) {
+                tally.count(&name);
+            }
+        }
+        assert!(tally.too_few().is_empty(), "{:?}", tally.too_few());
+        // The other collections too, with 20 among the refusals.
+        fills(&refused(&mut rng, 5), &category::refused_names(), 5);
+        fills(&mislabelled(&mut rng, 5), &category_label::names(), 5);
+    }
+
+    /// Two damages to a list: the earlier refusal comes for each two reasons.
+    #[test]
+    fn lists_are_damaged_twice() {
+        let _before = describe_lists();
+        let mut rng = Rng::new(70);
+        let name = |(earlier, later): Reasons| format!("{} and {:?}", earlier, later);
+        let mut tally = tally_of(&each_two_reasons().into_iter().map(name).collect::<Vec<_>>(), 5);
+        for _ in 0..4000 {
+            let (bytes, reasons) = twice_damaged_list(&mut rng);
+            if record::first_refusal(&bytes) == Some(reasons.0) {
+                tally.count(&name(reasons));
+            }
+        }
+        assert!(tally.too_few().is_empty(), "{:?}", tally.too_few());
+    }
+
+    /// Before kind 2 is described, no list is made and no number is drawn.
+    #[test]
+    fn no_lists_before_they_are_described() {
+        let _before = describe(&[1]);
+        let mut rng = Rng::new(7);
+        assert!(lists(&mut rng, 200).is_empty());
+        assert_eq!(rng.next(), Rng::new(7).next());
+        assert!(!each_two_reasons().iter().any(|&(earlier, later)| earlier == 20 || later == Some(20)));
     }
 
     #[test]

@@ -2,7 +2,7 @@
 
 use crate::check::{self, Verdict};
 use crate::closure::least_steps;
-use crate::record::{self, incomparable, Part, ORDER};
+use crate::record::{self, incomparable, order, View};
 use crate::wrong;
 use std::collections::{BTreeMap, BTreeSet};
 
@@ -145,9 +145,9 @@ pub const WRONG_READINGS: [&str; 8] = [
     "wrong reading differs: all matches must agree",
 ];
 
-fn pass_categories(part: &Part) -> Vec<String> {
-    let n = part.state_count();
-    let m = part.event_count();
+fn pass_categories(view: View) -> Vec<String> {
+    let n = view.state_count();
+    let m = view.event_count();
     let mut names = vec!["pass".to_string()];
     if n == 1 {
         names.push(PASS_BOUNDARIES[0].to_string());
@@ -164,26 +164,26 @@ fn pass_categories(part: &Part) -> Vec<String> {
     if n == 64 && m == 32 {
         names.push(PASS_BOUNDARIES[4].to_string());
     }
-    if part.events.iter().any(|event| event.identifier == 0) {
+    if view.events.iter().any(|event| event.identifier == 0) {
         names.push(PASS_BOUNDARIES[5].to_string());
     }
-    if part.events.iter().any(|event| event.identifier == 65_535) {
+    if view.events.iter().any(|event| event.identifier == 65_535) {
         names.push(PASS_BOUNDARIES[6].to_string());
     }
-    if part.events.iter().any(|event| incomparable(event.level, part.observer)) {
+    if view.events.iter().any(|event| incomparable(event.level, view.level())) {
         names.push(PASS_BOUNDARIES[7].to_string());
     }
-    if part.class_count() == 64 {
+    if view.class_count() == 64 {
         names.push(PASS_BOUNDARIES[8].to_string());
     }
-    if n > 32 && leads_farther(part, 31) && !wrong::passes_with_few_quiet_steps(part, 31) {
+    if n > 32 && leads_farther(view, 31) && !wrong::passes_with_few_quiet_steps(view, 31) {
         names.push(PASS_BOUNDARIES[9].to_string());
     }
-    if n >= 8 && part.class_count() >= 2 {
-        if !wrong::passes_without_quiet_steps(part) {
+    if n >= 8 && view.class_count() >= 2 {
+        if !wrong::passes_without_quiet_steps(view) {
             names.push(QUIET_IGNORED.to_string());
         }
-        if !wrong::passes_with_quiet_steps_removed(part) {
+        if !wrong::passes_with_quiet_steps_removed(view) {
             names.push(QUIET_REMOVED.to_string());
         }
     }
@@ -191,17 +191,17 @@ fn pass_categories(part: &Part) -> Vec<String> {
 }
 
 /// Is some state in a quiet reach only by more than `limit` quiet steps?
-fn leads_farther(part: &Part, limit: usize) -> bool {
-    let table = check::quiet_steps(part);
-    (0..part.state_count()).any(|s| least_steps(&table, s).into_iter().flatten().any(|steps| steps > limit))
+fn leads_farther(view: View, limit: usize) -> bool {
+    let table = check::quiet_steps(view);
+    (0..view.state_count()).any(|s| least_steps(&table, s).into_iter().flatten().any(|steps| steps > limit))
 }
 
-fn break_categories(part: &Part, found: check::Break) -> Vec<String> {
-    let n = part.state_count();
-    let m = part.event_count();
+fn break_categories(view: View, found: check::Break) -> Vec<String> {
+    let n = view.state_count();
+    let m = view.event_count();
     let mut names = vec![format!("rule {}", found.rule)];
     let mut e = 0;
-    while part.events[e].identifier != found.identifier {
+    while view.events[e].identifier != found.identifier {
         e += 1;
     }
     let mut add = |name: &str, index: usize, count: usize| {
@@ -232,11 +232,11 @@ fn break_categories(part: &Part, found: check::Break) -> Vec<String> {
     if found.identifier == 65_535 {
         names.push(BREAK_BOUNDARIES[4].to_string());
     }
-    if incomparable(part.events[e].level, part.observer) {
+    if incomparable(view.events[e].level, view.level()) {
         names.push(BREAK_BOUNDARIES[5].to_string());
     }
     if n > 32 && found.rule >= 4 {
-        let reaches = check::quiet_reaches(part);
+        let reaches = check::quiet_reaches(view);
         let far = reaches.iter().any(|reach| reach.iter().filter(|&&reached| reached).count() > 32);
         if far {
             names.push(BREAK_BOUNDARIES[6].to_string());
@@ -250,12 +250,18 @@ pub fn of_record(bytes: &[u8]) -> Vec<String> {
     of_verdict(bytes, check::check(bytes))
 }
 
-/// The same with Check's verdict on the record.
+/// The same with Check's verdict on the record. A break is looked at as the observer told sees the part, a pass as the
+/// first one does.
 pub fn of_verdict(bytes: &[u8], verdict: Verdict) -> Vec<String> {
-    match verdict {
-        Verdict::Refused(number) => vec![format!("refused {}", number)],
-        Verdict::Pass => pass_categories(&record::read(bytes).unwrap()),
-        Verdict::Breaks(found) => break_categories(&record::read(bytes).unwrap(), found),
+    if let Verdict::Refused(number) = verdict {
+        return vec![format!("refused {}", number)];
+    }
+    let part = record::read(bytes).unwrap();
+    let found = check::found_by(verdict);
+    let view = check::told(&part, found);
+    match found {
+        None => pass_categories(view),
+        Some(found) => break_categories(view, found),
     }
 }
 
@@ -266,19 +272,19 @@ pub fn wrong_readings_of(bytes: &[u8]) -> Vec<String> {
         Err(_) => return Vec::new(),
     };
     let passes = check::passes(&part);
-    let readings = [
-        wrong::passes_on_reachable_states(&part),
-        wrong::passes_without_quiet_steps(&part),
-        wrong::passes_with_quiet_steps_on_one_side(&part, true),
-        wrong::passes_with_quiet_steps_on_one_side(&part, false),
-        wrong::passes_with_high_inputs_quiet(&part),
-        wrong::passes_with_incomparable_low(&part),
-        wrong::passes_by_rank_alone(&part),
-        wrong::passes_if_all_matches_agree(&part),
+    let readings: [fn(View) -> bool; 8] = [
+        wrong::passes_on_reachable_states,
+        wrong::passes_without_quiet_steps,
+        |view| wrong::passes_with_quiet_steps_on_one_side(view, true),
+        |view| wrong::passes_with_quiet_steps_on_one_side(view, false),
+        wrong::passes_with_high_inputs_quiet,
+        wrong::passes_with_incomparable_low,
+        wrong::passes_by_rank_alone,
+        wrong::passes_if_all_matches_agree,
     ];
     let mut names = Vec::new();
     for i in 0..readings.len() {
-        if readings[i] != passes {
+        if part.views().into_iter().all(readings[i]) != passes {
             names.push(WRONG_READINGS[i].to_string());
         }
     }
@@ -286,7 +292,7 @@ pub fn wrong_readings_of(bytes: &[u8]) -> Vec<String> {
 }
 
 pub fn refused_names() -> Vec<String> {
-    ORDER.iter().map(|number| format!("refused {}", number)).collect()
+    order().iter().map(|number| format!("refused {}", number)).collect()
 }
 
 pub fn break_names() -> Vec<String> {

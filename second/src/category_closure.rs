@@ -3,7 +3,7 @@
 use crate::category_internal::{add_to_a_reach, has_step, low_internal_events, quiet_steps_without};
 use crate::check::{self, Verdict};
 use crate::closure::{self, ClosureAnswer, PIECE};
-use crate::record::{self, Part, ORDER};
+use crate::record::{self, order, Part, View};
 use crate::wrong_closure::{self, DISTANCES, LONGEST_WAY, ORDERS, STEPS};
 
 /// Is this a category that must come up most often?
@@ -26,7 +26,7 @@ const MOST_STATES_LONGEST_WAY: usize = 5;
 /// Every category.
 pub fn names() -> Vec<String> {
     let mut names = Vec::new();
-    for number in ORDER {
+    for number in order() {
         names.push(format!("refused {}", number));
         names.push(format!("refused {}, no room either", number));
         names.push(format!("refused {}, room for 64 states", number));
@@ -97,23 +97,33 @@ pub fn of_closure(bytes: &[u8], room: usize, answer: ClosureAnswer, verdict: Ver
     match answer {
         ClosureAnswer::Length(length) => {
             let part = record::read(bytes).unwrap();
-            let table = check::quiet_steps(&part);
-            let reaches = check::quiet_reaches(&part);
             let mut names = vec![CLOSED.to_string(), rule_name(verdict)];
             names.extend(size_names(&part, room - length));
-            names.extend(event_names(&part));
-            if part.state_count() <= MOST_STATES_MISREAD {
-                names.extend(needed_names(&part, &reaches));
-                names.extend(shorter_name(&part, &reaches, &table));
+            for view in part.views() {
+                let mut found = block_names(view);
+                found.retain(|name| !names.contains(name));
+                names.extend(found);
             }
-            names.extend(table_names(&table, &reaches));
-            names.extend(visit_names(&table));
-            names.extend(wrong_step_names(&part, &table, &reaches));
             names
         }
         ClosureAnswer::Refused(15) => no_room_names(&record::read(bytes).unwrap(), room),
         ClosureAnswer::Refused(number) => refused_names(number, room),
     }
+}
+
+/// By one observer's block; a category counts once where some block belongs to it.
+fn block_names(view: View) -> Vec<String> {
+    let table = check::quiet_steps(view);
+    let reaches = check::quiet_reaches(view);
+    let mut names = event_names(view);
+    if view.state_count() <= MOST_STATES_MISREAD {
+        names.extend(needed_names(view, &reaches));
+        names.extend(shorter_name(view, &reaches, &table));
+    }
+    names.extend(table_names(&table, &reaches));
+    names.extend(visit_names(&table));
+    names.extend(wrong_step_names(view, &table, &reaches));
+    names
 }
 
 fn refused_names(number: u32, room: usize) -> Vec<String> {
@@ -129,7 +139,7 @@ fn refused_names(number: u32, room: usize) -> Vec<String> {
 
 fn no_room_names(part: &Part, room: usize) -> Vec<String> {
     let mut names = vec!["refused 15".to_string()];
-    if room + 1 == PIECE * part.state_count() {
+    if room + 1 == closure::length(part) {
         names.push("refused 15, one byte short".to_string());
     }
     if room == 0 {
@@ -167,24 +177,24 @@ fn size_names(part: &Part, spare: usize) -> Vec<String> {
     names
 }
 
-fn event_names(part: &Part) -> Vec<String> {
-    let quiet: Vec<usize> = (0..part.event_count()).filter(|&e| part.is_quiet(e)).collect();
+fn event_names(view: View) -> Vec<String> {
+    let quiet: Vec<usize> = (0..view.event_count()).filter(|&e| view.is_quiet(e)).collect();
     let mut names = Vec::new();
     if quiet.is_empty() {
         names.push("closed, no quiet event".to_string());
-    } else if !quiet.iter().any(|&e| has_step(part, e)) {
+    } else if !quiet.iter().any(|&e| has_step(&view, e)) {
         names.push("closed, quiet events without a step".to_string());
     }
     names
 }
 
 /// By the events without which some quiet reach would be smaller.
-fn needed_names(part: &Part, reaches: &[Vec<bool>]) -> Vec<String> {
-    let quiet: Vec<usize> = (0..part.event_count()).filter(|&e| part.is_quiet(e)).collect();
-    let needed: Vec<usize> = quiet.iter().copied().filter(|&e| add_to_a_reach(part, reaches, &[e])).collect();
+fn needed_names(view: View, reaches: &[Vec<bool>]) -> Vec<String> {
+    let quiet: Vec<usize> = (0..view.event_count()).filter(|&e| view.is_quiet(e)).collect();
+    let needed: Vec<usize> = quiet.iter().copied().filter(|&e| add_to_a_reach(view, reaches, &[e])).collect();
     let mut names = Vec::new();
     for &e in &needed {
-        for name in names_of_event(part, e) {
+        for name in names_of_event(view, e) {
             let name = format!("closed, {} adds to a set", name);
             if !names.contains(&name) {
                 names.push(name);
@@ -194,7 +204,7 @@ fn needed_names(part: &Part, reaches: &[Vec<bool>]) -> Vec<String> {
     if quiet.len() >= 3 && needed == quiet {
         names.push("closed, three quiet events or more, none to be spared".to_string());
     }
-    let are_low_internal = quiet.iter().all(|&e| !has_step(part, e) || (part.is_internal(e) && part.is_low(e)));
+    let are_low_internal = quiet.iter().all(|&e| !has_step(&view, e) || (view.is_internal(e) && view.is_low(e)));
     if are_low_internal && !needed.is_empty() {
         names.push("closed, low internal events alone have quiet steps, one adds to a set".to_string());
     }
@@ -202,12 +212,12 @@ fn needed_names(part: &Part, reaches: &[Vec<bool>]) -> Vec<String> {
 }
 
 /// A quiet event in words.
-fn names_of_event(part: &Part, e: usize) -> &'static [&'static str] {
-    if part.is_output(e) {
+fn names_of_event(view: View, e: usize) -> &'static [&'static str] {
+    if view.is_output(e) {
         &["a high output"]
-    } else if part.is_high(e) {
+    } else if view.is_high(e) {
         &["a high internal event"]
-    } else if part.events[e].level == part.observer {
+    } else if view.events[e].level == view.level() {
         &["a low internal event", "a low internal event of the observer's own level"]
     } else {
         &["a low internal event", "a low internal event of another level"]
@@ -215,13 +225,13 @@ fn names_of_event(part: &Part, e: usize) -> &'static [&'static str] {
 }
 
 /// By the low internal events that make a distance shorter and nothing else.
-fn shorter_name(part: &Part, reaches: &[Vec<bool>], table: &[Vec<bool>]) -> Option<String> {
+fn shorter_name(view: View, reaches: &[Vec<bool>], table: &[Vec<bool>]) -> Option<String> {
     let shortens = |e: usize| {
-        let others = quiet_steps_without(part, &[e]);
-        !add_to_a_reach(part, reaches, &[e])
+        let others = quiet_steps_without(view, &[e]);
+        !add_to_a_reach(view, reaches, &[e])
             && (0..table.len()).any(|s| closure::least_steps(&others, s) != closure::least_steps(table, s))
     };
-    low_internal_events(part).into_iter().any(shortens).then(|| SHORTER.to_string())
+    low_internal_events(view).into_iter().any(shortens).then(|| SHORTER.to_string())
 }
 
 /// By the single quiet steps; those that stay in their state do not count for a shape.
@@ -356,11 +366,11 @@ fn wrong_distance_names(
 }
 
 /// The wrong tables of quiet steps that would show in some set.
-fn wrong_step_names(part: &Part, right: &[Vec<bool>], reaches: &[Vec<bool>]) -> Vec<String> {
+fn wrong_step_names(view: View, right: &[Vec<bool>], reaches: &[Vec<bool>]) -> Vec<String> {
     let mut names = Vec::new();
     for (name, counts) in STEPS {
-        let table = wrong_closure::steps_by(part, counts);
-        if table != right && (0..part.state_count()).any(|s| check::reach(&table, s) != reaches[s]) {
+        let table = wrong_closure::steps_by(view, counts);
+        if table != right && (0..view.state_count()).any(|s| check::reach(&table, s) != reaches[s]) {
             names.push(format!("wrong steps differ: {}", name));
         }
     }

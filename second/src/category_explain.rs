@@ -3,7 +3,7 @@
 use crate::category_internal::{add_to_a_reach, has_step, low_internal_events};
 use crate::check::{self, Break, Verdict};
 use crate::explain::{sum_of_sizes, ExplainAnswer, Explanation, EXPLANATION};
-use crate::record::{self, Part, ORDER};
+use crate::record::{self, order, View};
 use crate::wrong_closure::{self, STEPS};
 use crate::wrong_count::{self, COUNTS};
 
@@ -21,7 +21,7 @@ const MOST_STATES_MISREAD: usize = 24;
 /// Every category.
 pub fn names() -> Vec<String> {
     let mut names = Vec::new();
-    for number in ORDER {
+    for number in order() {
         names.push(format!("refused {}", number));
         names.push(format!("refused {}, no room either", number));
         names.push(format!("refused {}, 64 bytes or more", number));
@@ -109,19 +109,20 @@ pub fn of_explain(bytes: &[u8], room: usize, answer: ExplainAnswer) -> Vec<Strin
     match answer {
         ExplainAnswer::Explained(explanation) => {
             let part = record::read(bytes).unwrap();
-            let reaches = check::quiet_reaches(&part);
-            let mut names = explained_names(&explanation, part.observer, room);
+            let view = check::told(&part, break_of(&explanation));
+            let reaches = check::quiet_reaches(view);
+            let mut names = explained_names(&explanation, view.level(), room);
             if explanation.rule > 0 {
-                names.extend(break_names(&part, &reaches, &explanation));
+                names.extend(break_names(view, &reaches, &explanation));
             } else {
-                names.extend(pass_names(&part, &explanation));
+                names.extend(pass_names(view, &explanation));
             }
             if explanation.taken > part.state_count() as u64 {
                 names.push(COUNT_ABOVE_N.to_string());
-                names.extend(internal_name(&part, &reaches, &explanation));
+                names.extend(internal_name(view, &reaches, &explanation));
             }
             if part.state_count() <= MOST_STATES_MISREAD {
-                names.extend(wrong_count_names(&part, &reaches, &explanation));
+                names.extend(wrong_count_names(view, &reaches, &explanation));
             }
             names
         }
@@ -169,10 +170,10 @@ fn leads_on(reaches: &[Vec<bool>]) -> bool {
     sum_of_sizes(reaches) > reaches.len() as u64
 }
 
-fn break_names(part: &Part, reaches: &[Vec<bool>], explanation: &Explanation) -> Vec<String> {
-    let n = part.state_count() as u64;
+fn break_names(view: View, reaches: &[Vec<bool>], explanation: &Explanation) -> Vec<String> {
+    let n = view.state_count() as u64;
     let Explanation { rule, event, s, t, u, taken, observer, .. } = *explanation;
-    let level = part.events.iter().find(|entry| entry.identifier as u64 == event).unwrap().level as u64;
+    let level = view.events.iter().find(|entry| entry.identifier as u64 == event).unwrap().level as u64;
     let all_differ = s != t && t != u && u != s && s > 0 && t > 0 && u > 0;
     let mut names = Vec::new();
     let mut add = |applies: bool, name: &str| {
@@ -195,19 +196,19 @@ fn break_names(part: &Part, reaches: &[Vec<bool>], explanation: &Explanation) ->
     add(n == 1, "1 state");
     if n == 64 {
         names.push("explained, breaks a rule, 64 states".to_string());
-        if part.event_count() == 32 {
+        if view.event_count() == 32 {
             names.push("explained, breaks a rule, 64 states and 32 events".to_string());
         }
     }
     names
 }
 
-fn pass_names(part: &Part, explanation: &Explanation) -> Vec<String> {
-    let n = part.state_count() as u64;
-    let classes = part.class_count() as u64;
+fn pass_names(view: View, explanation: &Explanation) -> Vec<String> {
+    let n = view.state_count() as u64;
+    let classes = view.class_count() as u64;
     let taken = explanation.taken;
-    let quiet: Vec<usize> = (0..part.event_count()).filter(|&e| part.is_quiet(e)).collect();
-    let has_step = quiet.iter().any(|&e| has_step(part, e));
+    let quiet: Vec<usize> = (0..view.event_count()).filter(|&e| view.is_quiet(e)).collect();
+    let has_step = quiet.iter().any(|&e| has_step(&view, e));
     let mut names = Vec::new();
     let mut add = |applies: bool, name: &str| {
         if applies {
@@ -218,9 +219,9 @@ fn pass_names(part: &Part, explanation: &Explanation) -> Vec<String> {
     add(n == 1 && has_step, "1 state with a quiet step");
     add(n == 64 && taken == 64, "64 states, count 64");
     add(n == 64 && taken == 4096, "64 states, count 4096");
-    add(part.event_count() == 0, "0 events");
-    add(part.event_count() == 32, "32 events");
-    add(n == 64 && part.event_count() == 32, "64 states and 32 events");
+    add(view.event_count() == 0, "0 events");
+    add(view.event_count() == 32, "32 events");
+    add(n == 64 && view.event_count() == 32, "64 states and 32 events");
     add(n > 1 && quiet.is_empty(), "2 states or more, no quiet event");
     add(n > 1 && !quiet.is_empty() && !has_step, "2 states or more, quiet events without a step");
     add(n > 1 && has_step && taken == n, "2 states or more, quiet steps that stay and no other");
@@ -236,26 +237,26 @@ fn pass_names(part: &Part, explanation: &Explanation) -> Vec<String> {
 }
 
 /// By the low internal events that count, where there is a count.
-fn internal_name(part: &Part, reaches: &[Vec<bool>], explanation: &Explanation) -> Option<String> {
+fn internal_name(view: View, reaches: &[Vec<bool>], explanation: &Explanation) -> Option<String> {
     let verdict = verdict_name(explanation.rule as u32);
-    let adds = add_to_a_reach(part, reaches, &low_internal_events(part));
+    let adds = add_to_a_reach(view, reaches, &low_internal_events(view));
     adds.then(|| format!("explained, {}, a low internal event adds to the count", verdict))
 }
 
 /// The wrong counts, and the wrong tables of quiet steps, that would show in this explanation.
-fn wrong_count_names(part: &Part, reaches: &[Vec<bool>], explanation: &Explanation) -> Vec<String> {
+fn wrong_count_names(view: View, reaches: &[Vec<bool>], explanation: &Explanation) -> Vec<String> {
     let found = break_of(explanation);
     let mut names = Vec::new();
     for (name, count) in COUNTS {
-        if count(part, reaches, found) != explanation.taken {
+        if count(view, reaches, found) != explanation.taken {
             names.push(format!("wrong count differs: {}", name));
         }
     }
-    let right = check::quiet_steps(part);
+    let right = check::quiet_steps(view);
     for (name, counts) in STEPS {
-        let table = wrong_closure::steps_by(part, counts);
+        let table = wrong_closure::steps_by(view, counts);
         if table != right {
-            let reaches: Vec<Vec<bool>> = (0..part.state_count()).map(|s| check::reach(&table, s)).collect();
+            let reaches: Vec<Vec<bool>> = (0..view.state_count()).map(|s| check::reach(&table, s)).collect();
             if wrong_count::when_reported(found, sum_of_sizes(&reaches)) != explanation.taken {
                 names.push(format!("wrong steps change the count: {}", name));
             }
@@ -270,6 +271,7 @@ pub fn break_of(explanation: &Explanation) -> Option<Break> {
         return None;
     }
     Some(Break {
+        observer: explanation.observer as u8,
         rule: explanation.rule as u32,
         identifier: explanation.event as u16,
         s: explanation.s as usize,

@@ -2,7 +2,7 @@
 //! them.
 
 use crate::check::{self, Break, Verdict};
-use crate::record::{self, Part};
+use crate::record::{self, Part, View};
 use crate::wrong_closure::steps_by;
 use crate::wrong_internal::{as_outputs, readings_that_differ, READINGS};
 
@@ -52,11 +52,10 @@ pub struct Judged {
 
 /// A well-formed record with an internal event, and Check's verdict on it.
 pub fn judged(bytes: &[u8], verdict: Verdict) -> Option<Judged> {
-    let found = match verdict {
-        Verdict::Refused(_) => return None,
-        Verdict::Pass => None,
-        Verdict::Breaks(found) => Some(found),
-    };
+    if matches!(verdict, Verdict::Refused(_)) {
+        return None;
+    }
+    let found = check::found_by(verdict);
     let part = record::read(bytes).unwrap();
     if !(0..part.event_count()).any(|e| part.is_internal(e)) {
         return None;
@@ -74,7 +73,7 @@ impl Judged {
     /// The categories of the record. Without a low internal event that has a step document 01 reads it no differently,
     /// and it belongs to none.
     pub fn names(&self) -> Vec<String> {
-        if low_internal_events(&self.part).is_empty() {
+        if self.part.views().into_iter().all(|view| low_internal_events(view).is_empty()) {
             return Vec::new();
         }
         let mut names: Vec<String> = match (self.found, self.found_as_outputs) {
@@ -100,27 +99,27 @@ impl Judged {
     }
 
     fn break_names(&self, found: Break) -> Vec<String> {
-        let part = &self.part;
-        let e = event_of(part, found);
+        let view = check::told(&self.part, Some(found));
+        let e = event_of(&self.part, found);
         let mut names = vec![BOTH_BREAK.to_string()];
         let mut add = |applies: bool, name: &str| {
             if applies {
                 names.push(format!("breaks rule {}{}", found.rule, name));
             }
         };
-        if part.is_internal(e) {
-            let is_own_level = part.events[e].level == part.observer;
+        if view.is_internal(e) {
+            let is_own_level = view.events[e].level == view.level();
             let rule_as_outputs = self.found_as_outputs.map(|broken| broken.rule);
-            add(part.is_high(e), " at a high internal event");
-            add(part.is_low(e), " at a low internal event");
-            add(part.is_low(e) && is_own_level, " at a low internal event of the observer's own level");
-            add(part.is_low(e) && !is_own_level, " at a low internal event of another level");
+            add(view.is_high(e), " at a high internal event");
+            add(view.is_low(e), " at a low internal event");
+            add(view.is_low(e) && is_own_level, " at a low internal event of the observer's own level");
+            add(view.is_low(e) && !is_own_level, " at a low internal event of another level");
             let name = " at a low internal event, rule 5 with internal events made outputs";
-            add(part.is_low(e) && rule_as_outputs == Some(5), name);
+            add(view.is_low(e) && rule_as_outputs == Some(5), name);
         }
-        let adds = |reaches: &[Vec<bool>]| add_to_a_reach(part, reaches, &low_internal_events(part));
+        let adds = |reaches: &[Vec<bool>]| add_to_a_reach(view, reaches, &low_internal_events(view));
         let name = ", a low internal event adds to a quiet reach";
-        add(found.rule >= 4 && adds(&check::quiet_reaches(part)), name);
+        add(found.rule >= 4 && adds(&check::quiet_reaches(view)), name);
         names
     }
 }
@@ -130,19 +129,19 @@ pub fn has_step(part: &Part, e: usize) -> bool {
 }
 
 /// The internal events of a low level that have a step.
-pub fn low_internal_events(part: &Part) -> Vec<usize> {
-    (0..part.event_count()).filter(|&e| part.is_internal(e) && part.is_low(e) && has_step(part, e)).collect()
+pub fn low_internal_events(view: View) -> Vec<usize> {
+    (0..view.event_count()).filter(|&e| view.is_internal(e) && view.is_low(e) && has_step(&view, e)).collect()
 }
 
 /// The quiet steps but those of these events.
-pub fn quiet_steps_without(part: &Part, events: &[usize]) -> Vec<Vec<bool>> {
-    steps_by(part, |part, e| part.is_quiet(e) && !events.contains(&e))
+pub fn quiet_steps_without(view: View, events: &[usize]) -> Vec<Vec<bool>> {
+    steps_by(view, |view, e| view.is_quiet(e) && !events.contains(&e))
 }
 
 /// Is some quiet reach smaller without the steps of these events?
-pub fn add_to_a_reach(part: &Part, reaches: &[Vec<bool>], events: &[usize]) -> bool {
-    let table = quiet_steps_without(part, events);
-    (0..part.state_count()).any(|s| check::reach(&table, s) != reaches[s])
+pub fn add_to_a_reach(view: View, reaches: &[Vec<bool>], events: &[usize]) -> bool {
+    let table = quiet_steps_without(view, events);
+    (0..view.state_count()).any(|s| check::reach(&table, s) != reaches[s])
 }
 
 /// The event that a break names.

@@ -3,7 +3,7 @@
 use crate::category_internal::{add_to_a_reach, has_step, low_internal_events};
 use crate::check::{self, Verdict};
 use crate::join::{self, JoinAnswer, Side};
-use crate::record::{self, incomparable, Kind, Part, ORDER};
+use crate::record::{self, incomparable, order, Kind, Part, View};
 use crate::wrong_internal::as_outputs;
 
 /// Is this a category that must come up most often?
@@ -29,7 +29,7 @@ fn kind_name(kind: Kind) -> &'static str {
 pub fn names() -> Vec<String> {
     let mut names = Vec::new();
     for side in ["A", "B"] {
-        for number in ORDER {
+        for number in order() {
             names.push(format!("{} refused {}", side, number));
         }
         for rule in 1..=5 {
@@ -106,19 +106,27 @@ pub const INTERNAL: [&str; 3] = [
     "breaks with internal events made outputs",
 ];
 
-/// The shared low events that have a step in the joined part, by their numbers there.
-pub fn shared_low_events(a: &Part, b: &Part, joined: &Part) -> Vec<usize> {
+/// The shared low events that have a step in the joined part, by their numbers there, for one of its observers.
+pub fn shared_low_events(a: &Part, b: &Part, joined: View) -> Vec<usize> {
     let merged = join::merged_entries(a, b);
     let is_shared = |e: usize| merged[e].from_a.is_some() && merged[e].from_b.is_some();
-    (0..merged.len()).filter(|&e| is_shared(e) && joined.is_low(e) && has_step(joined, e)).collect()
+    (0..merged.len()).filter(|&e| is_shared(e) && joined.is_low(e) && has_step(&joined, e)).collect()
 }
 
-/// The categories of a joined part by the events that are quiet in it.
-pub fn internal_names(a: &Part, b: &Part, joined: &Part) -> Vec<&'static str> {
+/// Does a shared low event add to a quiet reach of the joined part, for one of its observers?
+pub fn shared_low_event_adds(a: &Part, b: &Part, joined: View) -> bool {
     let shared = shared_low_events(a, b, joined);
-    let adds = !shared.is_empty() && add_to_a_reach(joined, &check::quiet_reaches(joined), &shared);
-    let passes = low_internal_events(joined).is_empty() || check::passes(&as_outputs(joined));
-    let applies = [adds, !shared.is_empty() && passes, !passes];
+    !shared.is_empty() && add_to_a_reach(joined, &check::quiet_reaches(joined), &shared)
+}
+
+/// The categories of a joined part by the events that are quiet in it, for some of its observers.
+pub fn internal_names(a: &Part, b: &Part, joined: &Part) -> Vec<&'static str> {
+    let views = joined.views();
+    let shares = views.iter().any(|&view| !shared_low_events(a, b, view).is_empty());
+    let adds = views.iter().any(|&view| shared_low_event_adds(a, b, view));
+    let has_low_internal = views.iter().any(|&view| !low_internal_events(view).is_empty());
+    let passes = !has_low_internal || check::passes(&as_outputs(joined));
+    let applies = [adds, shares && passes, !passes];
     (0..INTERNAL.len()).filter(|&i| applies[i]).map(|i| INTERNAL[i]).collect()
 }
 
@@ -247,13 +255,17 @@ pub fn of_join(a: &[u8], b: &[u8], room: usize, answer: JoinAnswer) -> Vec<Strin
             if shared.iter().any(|&i| part_a.events[i].kind == Kind::Input) {
                 add("joined, B sends");
             }
-            if shared.iter().any(|&i| part_a.is_low(i)) {
+            // For some of the observers.
+            let shares = |is: fn(View, usize) -> bool| {
+                part_a.views().into_iter().any(|view| shared.iter().any(|&i| is(view, i)))
+            };
+            if shares(|view, i| view.is_low(i)) {
                 add("joined, shared low event");
             }
-            if shared.iter().any(|&i| part_a.is_high(i)) {
+            if shares(|view, i| view.is_high(i)) {
                 add("joined, shared high event");
             }
-            if shared.iter().any(|&i| incomparable(part_a.events[i].level, part_a.observer)) {
+            if shares(|view, i| incomparable(view.events[i].level, view.level())) {
                 add("joined, shared incomparable event");
             }
             add(if room == length { "joined, just enough room" } else { "joined, room to spare" });
@@ -279,10 +291,13 @@ pub fn of_join(a: &[u8], b: &[u8], room: usize, answer: JoinAnswer) -> Vec<Strin
             if part_a.start * nb + part_b.start > 0 {
                 add("joined, start not 0");
             }
-            if part_a.class_count() > 1 && part_b.class_count() > 1 {
+            // In some column.
+            let columns = part_a.observers.iter().zip(&part_b.observers);
+            let counts: Vec<(usize, usize)> = columns.map(|(x, y)| (x.class_count(), y.class_count())).collect();
+            if counts.iter().any(|&(x, y)| x > 1 && y > 1) {
                 add("joined, several classes in both");
             }
-            if part_a.class_count() * part_b.class_count() == 64 {
+            if counts.iter().any(|&(x, y)| x * y == 64) {
                 add("joined, 64 classes");
             }
         }

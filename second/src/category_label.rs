@@ -3,9 +3,7 @@
 
 use crate::category::place;
 use crate::check;
-use crate::record::{
-    fields, first_refusal, is_mislabelled, level_at, refusal_16, refusal_8, EVENT_COUNT_AT, OBSERVER_AT, STATE_COUNT_AT,
-};
+use crate::record::{event_levels, fields, first_refusal, is_mislabelled, observer_levels, refusal_16, refusal_8};
 use crate::wrong_label::{readings_that_differ, READINGS};
 use std::ops::RangeInclusive;
 
@@ -63,7 +61,7 @@ pub fn of_record(bytes: &[u8]) -> Vec<String> {
     let mut names = match first_refusal(bytes) {
         None => good_names(bytes),
         Some(16) => refused_names(bytes),
-        Some(number) if number > 5 && refusal_16(bytes) => vec![format!("refused {}, mislabelled too", number)],
+        Some(number @ 6..=7) if refusal_16(bytes) => vec![format!("refused {}, mislabelled too", number)],
         Some(_) => Vec::new(),
     };
     names.extend(readings_that_differ(bytes).into_iter().map(wrong_reading_name));
@@ -76,29 +74,25 @@ pub fn each_bad_level(bytes: &[u8]) -> Option<(&'static str, u8)> {
         return None;
     }
     match only_bad(bytes)? {
-        Bad::Observer => Some((EACH_BAD_LEVEL[0], bytes[OBSERVER_AT])),
+        Bad::Observer(i) => Some((EACH_BAD_LEVEL[0], observer_levels(bytes)[i])),
         Bad::Event(e) => Some((EACH_BAD_LEVEL[1], event_levels(bytes)[e])),
     }
-}
-
-fn event_levels(bytes: &[u8]) -> Vec<u8> {
-    let n = bytes[STATE_COUNT_AT] as usize;
-    let m = bytes[EVENT_COUNT_AT] as usize;
-    (0..m).map(|e| bytes[level_at(n, e)]).collect()
 }
 
 /// Whose level is bad.
 #[derive(Clone, Copy, PartialEq, Eq, Debug)]
 enum Bad {
-    Observer,
+    Observer(usize),
     Event(usize),
 }
 
 /// Whose level is bad, where it is one alone.
 fn only_bad(bytes: &[u8]) -> Option<Bad> {
     let mut bad = Vec::new();
-    if is_mislabelled(bytes[OBSERVER_AT]) {
-        bad.push(Bad::Observer);
+    for (i, level) in observer_levels(bytes).into_iter().enumerate() {
+        if is_mislabelled(level) {
+            bad.push(Bad::Observer(i));
+        }
     }
     for (e, level) in event_levels(bytes).into_iter().enumerate() {
         if is_mislabelled(level) {
@@ -116,7 +110,7 @@ fn good_names(bytes: &[u8]) -> Vec<String> {
     let levels = event_levels(bytes);
     let mut names = Vec::new();
     for level in GOOD_LEVELS {
-        if bytes[OBSERVER_AT] == level {
+        if observer_levels(bytes).contains(&level) {
             names.push(format!("not refused, observer {:#04x}", level));
         }
         if levels.contains(&level) {
@@ -129,20 +123,21 @@ fn good_names(bytes: &[u8]) -> Vec<String> {
 fn refused_names(bytes: &[u8]) -> Vec<String> {
     let mut names = match only_bad(bytes) {
         None => vec!["several levels".to_string()],
-        Some(Bad::Observer) => observer_names(bytes),
+        Some(Bad::Observer(i)) => observer_names(bytes, i),
         Some(Bad::Event(e)) => event_names(bytes, e),
     };
     names.push(otherwise_name(bytes));
     names.into_iter().map(|name| format!("refused 16, {}", name)).collect()
 }
 
-fn observer_names(bytes: &[u8]) -> Vec<String> {
+fn observer_names(bytes: &[u8], i: usize) -> Vec<String> {
+    let level = observer_levels(bytes)[i];
     let mut names = vec!["observer alone".to_string()];
-    if bytes[EVENT_COUNT_AT] == 0 {
+    if event_levels(bytes).is_empty() {
         names.push("observer, no events".to_string());
     }
-    if ENDS.contains(&bytes[OBSERVER_AT]) {
-        names.push(format!("observer {:#04x} alone", bytes[OBSERVER_AT]));
+    if ENDS.contains(&level) {
+        names.push(format!("observer {:#04x} alone", level));
     }
     names
 }

@@ -3,6 +3,7 @@
 use crate::answer::Answer;
 use crate::category;
 use crate::category_join::{self, clashes};
+use crate::category_list_calls::{of_pair, pair_names};
 use crate::check::{self, Verdict};
 use crate::examples;
 use crate::join;
@@ -89,6 +90,9 @@ pub fn names() -> Vec<String> {
         names.push(name.to_string());
     }
     for name in category_join::INTERNAL {
+        names.push(format!("hookup, {}", name));
+    }
+    for name in pair_names() {
         names.push(format!("hookup, {}", name));
     }
     names
@@ -290,6 +294,11 @@ fn hookup_names(held: &mut Vec<Held>, i: usize, j: usize, answer: Answer, room: 
     }
     let a = &held[i].part;
     let b = &held[j].part;
+    if answer != Answer::Refused(15) {
+        for name in of_pair(a, b) {
+            add(&format!("hookup, {}", name));
+        }
+    }
     match answer {
         Answer::Refused(9) => {
             add("hookup refused 9");

@@ -1,7 +1,7 @@
-//! The examples of document 01, "Examples", as bytes; P with a level that request d refuses, and P and T with internal
-//! events for request i.
+//! The examples of document 01, "Examples", as bytes; P with a level that request d refuses, P and T with internal events
+//! for request i, and P, Q, T and Z for several observers, for request k.
 
-use crate::record::{self, Event, Kind, Part};
+use crate::record::{self, Event, Kind, Observer, Part};
 
 /// P, byte by byte.
 pub fn p() -> Vec<u8> {
@@ -102,6 +102,75 @@ pub fn outputs(first: u16, count: usize) -> Vec<u8> {
         part.steps[e][0][0] = true;
     }
     record::write(&part)
+}
+
+/// P for the observers 0x00 and 0x40, byte by byte: to the second one input 1 is low, and its classes are 0 1.
+pub fn p_for_two() -> Vec<u8> {
+    let mut bytes = vec![
+        0x32, 0x00, 0x00, 0x00, 0x02, 0x00, 0x02, 0x02, 0x00, 0x02, 0x00, 0x40, 0x00, 0x00, 0x00, 0x01, 0x01, 0x00,
+        0x00, 0x40, 0x02, 0x00, 0x01, 0x00,
+    ];
+    for row in [2u8, 1, 1, 2] {
+        bytes.extend_from_slice(&[row, 0, 0, 0, 0, 0, 0, 0]);
+    }
+    bytes
+}
+
+/// The same with some bytes changed, each given with its offset.
+pub fn p_for_two_with(changes: &[(usize, u8)]) -> Vec<u8> {
+    let mut bytes = p_for_two();
+    for &(at, byte) in changes {
+        bytes[at] = byte;
+    }
+    bytes
+}
+
+/// Z for the observers 0x00 and 0x40, byte by byte.
+pub fn z_for_two() -> Vec<u8> {
+    vec![8, 0, 0, 0, 2, 0, 2, 1, 0, 0, 0x00, 0x40, 0, 0]
+}
+
+/// Z for any list of observers.
+pub fn z_for(levels: &[u8]) -> Vec<u8> {
+    record::write(&for_levels(&record::fields(&z()), levels))
+}
+
+/// Q for the observers 0x00 and 0x40.
+pub fn q_for_two() -> Vec<u8> {
+    record::write(&for_levels(&record::fields(&q()), &[0x00, 0x40]))
+}
+
+/// The part for observers of these levels, with one grouping for all of them.
+fn for_levels(part: &Part, levels: &[u8]) -> Part {
+    let classes = &part.observers[0].classes;
+    let observers = levels.iter().map(|&level| Observer { level, classes: classes.clone() }).collect();
+    Part { observers, ..part.clone() }
+}
+
+/// T with event 1 an output of level 0x40, for the observers 0x00, to whom it is high, and 0x40, to whom it is low.
+pub fn t_for_two(first: [u8; 3], second: [u8; 3]) -> Part {
+    let mut part = t(Kind::Output, 0x40);
+    part.observers =
+        vec![Observer { level: 0x00, classes: first.to_vec() }, Observer { level: 0x40, classes: second.to_vec() }];
+    part
+}
+
+/// Three states for the observers 0x00 and 0x40. Output 1, of level 0x40, leads from 1 to 0; input 2, high for both, leads
+/// from 1 to 2 and stays elsewhere. The first observer's classes are 0 1 1: rule 4 is broken. The second one's are 0 0 1:
+/// rule 2 is broken.
+pub fn lower_rule_at_the_second() -> Part {
+    let events = vec![
+        Event { identifier: 1, kind: Kind::Output, level: 0x40 },
+        Event { identifier: 2, kind: Kind::Input, level: 0x80 },
+    ];
+    let observers =
+        vec![Observer { level: 0x00, classes: vec![0, 1, 1] }, Observer { level: 0x40, classes: vec![0, 0, 1] }];
+    let mut part = Part::for_observers(observers, 0, events);
+    part.steps[0][1][0] = true;
+    part.steps[1][0][0] = true;
+    part.steps[1][1][2] = true;
+    part.steps[1][2][2] = true;
+    part
 }
 
 /// Source document 001, the first counterexample: a machine that counts high events until `stop` and then says

@@ -1,8 +1,8 @@
 //! The explanation: Check's answer in eight numbers, and among them how many states were taken up.
-//! Document 02, requests f and i, and the C header, `hookup_explain`.
+//! Document 02, requests f, i and k, and the C header, `hookup_explain`.
 
-use crate::check::{self, quiet_reaches, Break, Verdict};
-use crate::record::{self, OBSERVER_AT};
+use crate::check::{self, found_by, quiet_reaches, told, Break, Verdict};
+use crate::record;
 
 /// The bytes of an explanation: eight numbers of eight bytes.
 pub const EXPLANATION: usize = 64;
@@ -57,14 +57,15 @@ fn is_reported(verdict: Verdict) -> bool {
     }
 }
 
-/// Request f: what Check reports, its verdict and how many states were taken up.
+/// Requests f and k: what Check reports, its verdict and how many states were taken up, for the observer told by a break
+/// or for the first one where the part passes.
 pub fn check_and_count(bytes: &[u8]) -> (Verdict, u64) {
     let verdict = check::check(bytes);
     if !is_reported(verdict) {
         return (verdict, 0);
     }
     let part = record::read(bytes).unwrap();
-    (verdict, sum_of_sizes(&quiet_reaches(&part)))
+    (verdict, sum_of_sizes(&quiet_reaches(told(&part, found_by(verdict)))))
 }
 
 /// The C header: the numbers for a pass.
@@ -72,8 +73,8 @@ fn of_pass(taken: u64) -> Explanation {
     Explanation { rule: 0, event: 0, s: 0, t: 0, u: 0, taken, observer: 0, limit: 1 }
 }
 
-/// The C header: the numbers for a break.
-fn of_break(found: Break, taken: u64, observer: u8) -> Explanation {
+/// The C header: the numbers for a break, with the level of the observer told.
+fn of_break(found: Break, taken: u64) -> Explanation {
     Explanation {
         rule: found.rule as u64,
         event: found.identifier as u64,
@@ -81,7 +82,7 @@ fn of_break(found: Break, taken: u64, observer: u8) -> Explanation {
         t: found.t as u64,
         u: found.u as u64,
         taken,
-        observer: observer as u64,
+        observer: found.observer as u64,
         limit: 0,
     }
 }
@@ -113,7 +114,7 @@ pub fn explain(bytes: &[u8], out: &mut [u8]) -> ExplainAnswer {
     let explanation = match verdict {
         Verdict::Refused(number) => return ExplainAnswer::Refused(number),
         Verdict::Pass => of_pass(taken),
-        Verdict::Breaks(found) => of_break(found, taken, bytes[OBSERVER_AT]),
+        Verdict::Breaks(found) => of_break(found, taken),
     };
     if out.len() < EXPLANATION {
         return ExplainAnswer::Refused(15);
@@ -140,6 +141,7 @@ mod tests {
     use crate::check::passes;
     use crate::examples;
     use crate::make::{self, Shape, SHAPES};
+    use crate::record::described::describe_lists;
     use crate::record::{Event, Kind, Part};
     use crate::rng::Rng;
 
@@ -192,12 +194,12 @@ mod tests {
         // Without the step from 0 to 1 rule 4 is broken: 1 leads to 2, and 0 does not.
         part.steps[0][0][1] = false;
         part.steps[0][2][0] = false;
-        let found = Break { rule: 4, identifier: 7, s: 1, t: 2, u: 0 };
+        let found = Break { observer: 0, rule: 4, identifier: 7, s: 1, t: 2, u: 0 };
         assert_eq!(check_and_count(&record::write(&part)), (Verdict::Breaks(found), 4));
         // An input without a step breaks rule 1, and the same quiet steps are not counted.
         part.events.push(Event { identifier: 9, kind: Kind::Input, level: 0 });
         part.steps.push(vec![vec![false; 3]; 3]);
-        let found = Break { rule: 1, identifier: 9, s: 0, t: 0, u: 0 };
+        let found = Break { observer: 0, rule: 1, identifier: 9, s: 0, t: 0, u: 0 };
         assert_eq!(check_and_count(&record::write(&part)), (Verdict::Breaks(found), 0));
     }
 
@@ -275,6 +277,30 @@ mod tests {
         let mut rng = Rng::new(76);
         let part = make::passing_shaped(&mut rng, Shape::Circle, 64, 1, true);
         assert_eq!(explained(&record::write(&part)), [0, 0, 0, 0, 0, 4096, 0, 1]);
+    }
+
+    /// Request k: "The count in f) is that of the observer told, or of the first when the part passes". To the first
+    /// observer T's output is quiet, and its quiet reaches are 0 and 2, 1, 2; to the second one it is not.
+    #[test]
+    fn numbers_of_several_observers() {
+        let _before = describe_lists();
+        let explained_t = |first, second| explained(&record::write(&examples::t_for_two(first, second)));
+        assert_eq!(explained_t([0, 0, 0], [0, 1, 2]), [0, 0, 0, 0, 0, 4, 0, 1]);
+        assert_eq!(explained_t([0, 0, 0], [0, 0, 1]), [5, 1, 0, 2, 1, 3, 0x40, 0]);
+        assert_eq!(explained_t([0, 0, 1], [0, 0, 1]), [4, 1, 0, 2, 1, 4, 0, 0]);
+        let part = examples::lower_rule_at_the_second();
+        assert_eq!(explained(&record::write(&part)), [4, 1, 1, 0, 2, 4, 0, 0]);
+        assert_eq!(explained(&examples::p_for_two()), [0, 0, 0, 0, 0, 2, 0, 1]);
+        assert_eq!(explained(&examples::p_for_two_with(&[(13, 1)])), [2, 1, 0, 1, 0, 0, 0, 0]);
+        assert_eq!(explained(&examples::p_for_two_with(&[(32, 0)])), [1, 1, 1, 0, 0, 0, 0, 0]);
+        // Observers 0x41 and 0x81, and 0x82 as input 1's level: the first one's level is told.
+        let bytes = examples::p_for_two_with(&[(10, 0x41), (11, 0x81), (19, 0x82), (13, 1)]);
+        assert_eq!(explained(&bytes), [2, 1, 0, 1, 0, 0, 0x41, 0]);
+        // The first in one class, the second one in two: its level is told.
+        let bytes = examples::p_for_two_with(&[(10, 0x41), (11, 0x81), (19, 0x82)]);
+        assert_eq!(explained(&bytes), [2, 1, 0, 1, 0, 0, 0x81, 0]);
+        assert_eq!(number(explain(&examples::p_for_two_with(&[(11, 0)]), &mut [])), 20);
+        assert_eq!(number(explain(&examples::p_for_two(), &mut [0; 63])), 15);
     }
 
     #[test]

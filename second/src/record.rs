@@ -1,5 +1,11 @@
-//! The part record: its bytes, its fields, refusals 1 to 7, 16 and 8.
-//! Document 01, "Levels", "The part record", "Refusals out of the input"; document 02, requests d and i.
+//! The part record: its kinds, its bytes, its fields, and the refusals of a record.
+//! Document 01, "Levels", "The part record", "Refusals out of the input"; document 02, requests d, i and k.
+
+use std::ops::Deref;
+
+/// Request k, "a kind not described so far": the kinds of records that are described so far. Kind 2 has its form below;
+/// what is asked of it, made and counted for it begins when it stands here.
+pub const KINDS: &[u16] = &[1];
 
 /// The kind of an event.
 #[derive(Clone, Copy, PartialEq, Eq, Debug)]
@@ -26,53 +32,58 @@ pub struct Event {
     pub level: u8,
 }
 
-/// A part as its record describes it. `steps[e][s][t]`: event number e may lead from s to t.
+/// An observer of a part: its level, and the grouping of the states that is proposed for it.
+#[derive(Clone, PartialEq, Eq, Debug)]
+pub struct Observer {
+    pub level: u8,
+    pub classes: Vec<u8>,
+}
+
+impl Observer {
+    /// The number of classes: one more than the largest class byte.
+    pub fn class_count(&self) -> usize {
+        let mut largest = 0;
+        for &class in &self.classes {
+            if class > largest {
+                largest = class;
+            }
+        }
+        largest as usize + 1
+    }
+}
+
+/// A part as its record describes it: a table of states, events and steps, and a list of observers.
+/// `steps[e][s][t]`: event number e may lead from s to t.
 #[derive(Clone, PartialEq, Eq, Debug)]
 pub struct Part {
-    pub observer: u8,
+    pub states: usize,
     pub start: usize,
-    pub classes: Vec<u8>,
     pub events: Vec<Event>,
     pub steps: Vec<Vec<Vec<bool>>>,
+    pub observers: Vec<Observer>,
 }
 
 impl Part {
-    /// A part of these states and events without any step.
+    /// A part for one observer, of these states and events without any step.
     pub fn without_steps(observer: u8, start: usize, classes: Vec<u8>, events: Vec<Event>) -> Part {
-        let n = classes.len();
-        let steps = vec![vec![vec![false; n]; n]; events.len()];
-        Part { observer, start, classes, events, steps }
+        Part::for_observers(vec![Observer { level: observer, classes }], start, events)
+    }
+
+    /// The same for a list of observers.
+    pub fn for_observers(observers: Vec<Observer>, start: usize, events: Vec<Event>) -> Part {
+        let states = observers[0].classes.len();
+        let steps = vec![vec![vec![false; states]; states]; events.len()];
+        Part { states, start, events, steps, observers }
     }
 
     /// n, the number of states.
     pub fn state_count(&self) -> usize {
-        self.classes.len()
+        self.states
     }
 
     /// m, the number of events.
     pub fn event_count(&self) -> usize {
         self.events.len()
-    }
-
-    /// The number of classes: one more than the largest class byte.
-    pub fn class_count(&self) -> usize {
-        let mut largest = 0;
-        for s in 0..self.state_count() {
-            if self.classes[s] > largest {
-                largest = self.classes[s];
-            }
-        }
-        largest as usize + 1
-    }
-
-    /// "Levels": is the event's level at or below the observer's?
-    pub fn is_low(&self, e: usize) -> bool {
-        at_or_below(self.events[e].level, self.observer)
-    }
-
-    /// "Levels": all others are high, incomparable ones too.
-    pub fn is_high(&self, e: usize) -> bool {
-        !self.is_low(e)
     }
 
     pub fn is_input(&self, e: usize) -> bool {
@@ -87,6 +98,61 @@ impl Part {
         self.events[e].kind == Kind::Internal
     }
 
+    pub fn leads(&self, e: usize, s: usize, t: usize) -> bool {
+        self.steps[e][s][t]
+    }
+
+    /// The part as observer number i of its list sees it.
+    pub fn view(&self, i: usize) -> View<'_> {
+        View { part: self, observer: &self.observers[i] }
+    }
+
+    /// The part as each of its observers sees it, in the order of the list.
+    pub fn views(&self) -> Vec<View<'_>> {
+        (0..self.observers.len()).map(|i| self.view(i)).collect()
+    }
+
+    /// The observers' levels, in the order of the list.
+    pub fn levels(&self) -> Vec<u8> {
+        self.observers.iter().map(|observer| observer.level).collect()
+    }
+}
+
+/// A part as one of its observers sees it: which events are low, and which states have one class. All else is the part's.
+#[derive(Clone, Copy, Debug)]
+pub struct View<'a> {
+    pub part: &'a Part,
+    pub observer: &'a Observer,
+}
+
+impl Deref for View<'_> {
+    type Target = Part;
+
+    fn deref(&self) -> &Part {
+        self.part
+    }
+}
+
+impl View<'_> {
+    /// The observer's level.
+    pub fn level(&self) -> u8 {
+        self.observer.level
+    }
+
+    pub fn class_count(&self) -> usize {
+        self.observer.class_count()
+    }
+
+    /// "Levels": is the event's level at or below the observer's?
+    pub fn is_low(&self, e: usize) -> bool {
+        at_or_below(self.events[e].level, self.level())
+    }
+
+    /// "Levels": all others are high, incomparable ones too.
+    pub fn is_high(&self, e: usize) -> bool {
+        !self.is_low(e)
+    }
+
     pub fn is_low_output(&self, e: usize) -> bool {
         self.is_output(e) && self.is_low(e)
     }
@@ -97,11 +163,7 @@ impl Part {
     }
 
     pub fn same_class(&self, s: usize, t: usize) -> bool {
-        self.classes[s] == self.classes[t]
-    }
-
-    pub fn leads(&self, e: usize, s: usize, t: usize) -> bool {
-        self.steps[e][s][t]
+        self.observer.classes[s] == self.observer.classes[t]
     }
 }
 
@@ -148,33 +210,143 @@ pub fn u32_at(bytes: &[u8], offset: usize) -> u32 {
     u16_at(bytes, offset) as u32 + 65536 * u16_at(bytes, offset + 2) as u32
 }
 
-/// "The part record": the number of body bytes for n states and m events.
-pub fn body_length(n: usize, m: usize) -> usize {
-    4 + n + 4 * m + 8 * m * n
+/// What the first byte of a body tells: the level of the one observer, or how many observers are listed.
+#[derive(Clone, Copy, PartialEq, Eq, Debug)]
+pub enum First {
+    Level,
+    Count,
 }
 
-// Offsets in a record, valid once the earlier refusals are out of the way.
+/// The form of a kind of records: what the first byte of the body tells, how many class columns each observer has, and
+/// the refusals that come for this kind alone.
+#[derive(Clone, Copy, Debug)]
+pub struct Form {
+    pub kind: u16,
+    pub first: First,
+    pub columns: usize,
+    pub refusals: &'static [u32],
+}
+
+/// Document 01's records, and those of request k.
+pub const FORMS: [Form; 2] = [
+    Form { kind: 1, first: First::Level, columns: 1, refusals: &[] },
+    Form { kind: 2, first: First::Count, columns: 1, refusals: &[20] },
+];
+
+/// Request k: how many observers a record of kind 2 may list.
+pub const FEWEST_LISTED: usize = 2;
+pub const MOST_LISTED: usize = 4;
+
+/// Is the kind described so far?
+pub fn is_described(kind: u16) -> bool {
+    kinds().contains(&kind)
+}
+
+/// The kinds described so far. The tests may describe more of them for a while.
+#[cfg(not(test))]
+pub fn kinds() -> &'static [u16] {
+    KINDS
+}
+#[cfg(test)]
+pub use described::kinds;
+
+/// "The part record", request k: the form of a part's record, by its number of observers.
+pub fn form_of(part: &Part) -> Form {
+    if part.observers.len() == 1 {
+        FORMS[0]
+    } else {
+        FORMS[1]
+    }
+}
 
 pub const HEADER: usize = 6;
-pub const OBSERVER_AT: usize = 6;
+pub const KIND_AT: usize = 4;
+pub const FIRST_AT: usize = 6;
 pub const STATE_COUNT_AT: usize = 7;
 pub const START_AT: usize = 8;
 pub const EVENT_COUNT_AT: usize = 9;
+const NUMBERS_END: usize = 10;
 
-pub fn class_at(s: usize) -> usize {
-    10 + s
+/// Where the fields of a record lie: by its form, the number of its observers, n and m.
+#[derive(Clone, Copy, Debug)]
+pub struct Layout {
+    pub form: Form,
+    pub observers: usize,
+    pub n: usize,
+    pub m: usize,
 }
 
-pub fn entry_at(n: usize, e: usize) -> usize {
-    10 + n + 4 * e
+impl Layout {
+    /// By a record's own bytes, valid once refusals 1 to 4 are out of the way. A count is taken as it stands. Of a kind
+    /// without a form nothing is known; it is laid out as kind 1.
+    pub fn of(bytes: &[u8]) -> Layout {
+        let kind = u16_at(bytes, KIND_AT);
+        let form = FORMS.into_iter().find(|form| form.kind == kind).unwrap_or(FORMS[0]);
+        let observers = match form.first {
+            First::Level => 1,
+            First::Count => bytes[FIRST_AT] as usize,
+        };
+        Layout { form, observers, n: bytes[STATE_COUNT_AT] as usize, m: bytes[EVENT_COUNT_AT] as usize }
+    }
+
+    /// By a part.
+    pub fn of_part(part: &Part) -> Layout {
+        let (observers, n, m) = (part.observers.len(), part.state_count(), part.event_count());
+        Layout { form: form_of(part), observers, n, m }
+    }
+
+    /// The bytes of the listed observers, behind the four numbers.
+    fn list_length(self) -> usize {
+        match self.form.first {
+            First::Level => 0,
+            First::Count => self.observers,
+        }
+    }
+
+    /// The number of class columns.
+    pub fn columns(self) -> usize {
+        self.observers * self.form.columns
+    }
+
+    /// "The part record", request k: the number of body bytes.
+    pub fn body_length(self) -> usize {
+        4 + self.list_length() + self.columns() * self.n + 4 * self.m + 8 * self.m * self.n
+    }
+
+    /// The level of observer number i.
+    pub fn observer_at(self, i: usize) -> usize {
+        match self.form.first {
+            First::Level => FIRST_AT,
+            First::Count => NUMBERS_END + i,
+        }
+    }
+
+    /// The class of state s in a column.
+    pub fn class_at(self, column: usize, s: usize) -> usize {
+        NUMBERS_END + self.list_length() + column * self.n + s
+    }
+
+    pub fn entry_at(self, e: usize) -> usize {
+        self.class_at(self.columns(), 0) + 4 * e
+    }
+
+    /// The level of event number e.
+    pub fn level_at(self, e: usize) -> usize {
+        self.entry_at(e) + 3
+    }
+
+    pub fn row_at(self, e: usize, s: usize) -> usize {
+        self.entry_at(self.m) + 8 * (e * self.n + s)
+    }
 }
 
-pub fn level_at(n: usize, e: usize) -> usize {
-    entry_at(n, e) + 3
-}
-
-pub fn row_at(n: usize, m: usize, e: usize, s: usize) -> usize {
-    10 + n + 4 * m + 8 * (e * n + s)
+/// "The part record", request k: the number of bytes of the longest record of a kind described so far.
+pub fn longest() -> usize {
+    let lengths = FORMS.into_iter().filter(|form| is_described(form.kind)).map(|form| {
+        let observers = if form.first == First::Count { MOST_LISTED } else { 1 };
+        HEADER + Layout { form, observers, n: 64, m: 32 }.body_length()
+    });
+    lengths.max().unwrap()
 }
 
 /// Bit t of the eight-byte row at an offset, bit 0 lowest.
@@ -192,9 +364,9 @@ pub fn refusal_2(bytes: &[u8]) -> bool {
     u32_at(bytes, 0) as usize != bytes.len() - HEADER
 }
 
-/// Refusal 3.
+/// Refusal 3, request k: a kind not described so far.
 pub fn refusal_3(bytes: &[u8]) -> bool {
-    u16_at(bytes, 4) != 1
+    !is_described(u16_at(bytes, KIND_AT))
 }
 
 /// Refusal 4.
@@ -208,22 +380,36 @@ pub fn refusal_4(bytes: &[u8]) -> bool {
     n < 1 || n > 64 || start >= n || m > 32
 }
 
-/// Refusal 5.
+/// Refusal 5. A count that 20 would refuse counts here too.
 pub fn refusal_5(bytes: &[u8]) -> bool {
-    let n = bytes[STATE_COUNT_AT] as usize;
-    let m = bytes[EVENT_COUNT_AT] as usize;
-    u32_at(bytes, 0) as usize != body_length(n, m)
+    u32_at(bytes, 0) as usize != Layout::of(bytes).body_length()
 }
 
-/// Refusal 6.
-pub fn refusal_6(bytes: &[u8]) -> bool {
-    let n = bytes[STATE_COUNT_AT] as usize;
-    if bytes[class_at(0)] != 0 {
+/// Refusal 20: a count outside 2 to 4, or observers that do not rise. Records that list no observers never get it.
+pub fn refusal_20(bytes: &[u8]) -> bool {
+    let layout = Layout::of(bytes);
+    if layout.form.first != First::Count {
+        return false;
+    }
+    if layout.observers < FEWEST_LISTED || layout.observers > MOST_LISTED {
+        return true;
+    }
+    for i in 1..layout.observers {
+        if bytes[layout.observer_at(i)] <= bytes[layout.observer_at(i - 1)] {
+            return true;
+        }
+    }
+    false
+}
+
+/// Refusal 6 for one column.
+pub fn is_misnumbered(classes: &[u8]) -> bool {
+    if classes[0] != 0 {
         return true;
     }
     let mut largest_before = 0;
-    for s in 1..n {
-        let class = bytes[class_at(s)];
+    for s in 1..classes.len() {
+        let class = classes[s];
         if class as usize > largest_before as usize + 1 {
             return true;
         }
@@ -234,19 +420,34 @@ pub fn refusal_6(bytes: &[u8]) -> bool {
     false
 }
 
+/// The class bytes of a column.
+pub fn column(bytes: &[u8], column: usize) -> &[u8] {
+    let layout = Layout::of(bytes);
+    &bytes[layout.class_at(column, 0)..layout.class_at(column + 1, 0)]
+}
+
+/// The grouping of observer number i.
+pub fn classes_of(bytes: &[u8], i: usize) -> &[u8] {
+    column(bytes, i * Layout::of(bytes).form.columns)
+}
+
+/// Refusal 6: tested for the column of each observer.
+pub fn refusal_6(bytes: &[u8]) -> bool {
+    (0..Layout::of(bytes).observers).any(|i| is_misnumbered(classes_of(bytes, i)))
+}
+
 /// Refusal 7.
 pub fn refusal_7(bytes: &[u8]) -> bool {
-    let n = bytes[STATE_COUNT_AT] as usize;
-    let m = bytes[EVENT_COUNT_AT] as usize;
-    for e in 1..m {
-        let before = u16_at(bytes, entry_at(n, e - 1));
-        let identifier = u16_at(bytes, entry_at(n, e));
+    let layout = Layout::of(bytes);
+    for e in 1..layout.m {
+        let before = u16_at(bytes, layout.entry_at(e - 1));
+        let identifier = u16_at(bytes, layout.entry_at(e));
         if identifier <= before {
             return true;
         }
     }
-    for e in 0..m {
-        let kind = bytes[entry_at(n, e) + 2];
+    for e in 0..layout.m {
+        let kind = bytes[layout.entry_at(e) + 2];
         if kind > 2 {
             return true;
         }
@@ -254,29 +455,30 @@ pub fn refusal_7(bytes: &[u8]) -> bool {
     false
 }
 
-/// Refusal 16: such a level as the observer or in an event.
+/// The levels of the observers.
+pub fn observer_levels(bytes: &[u8]) -> Vec<u8> {
+    let layout = Layout::of(bytes);
+    (0..layout.observers).map(|i| bytes[layout.observer_at(i)]).collect()
+}
+
+/// The levels of the events.
+pub fn event_levels(bytes: &[u8]) -> Vec<u8> {
+    let layout = Layout::of(bytes);
+    (0..layout.m).map(|e| bytes[layout.level_at(e)]).collect()
+}
+
+/// Refusal 16: such a level as an observer's or in an event.
 pub fn refusal_16(bytes: &[u8]) -> bool {
-    let n = bytes[STATE_COUNT_AT] as usize;
-    let m = bytes[EVENT_COUNT_AT] as usize;
-    if is_mislabelled(bytes[OBSERVER_AT]) {
-        return true;
-    }
-    for e in 0..m {
-        if is_mislabelled(bytes[level_at(n, e)]) {
-            return true;
-        }
-    }
-    false
+    observer_levels(bytes).into_iter().any(is_mislabelled) || event_levels(bytes).into_iter().any(is_mislabelled)
 }
 
 /// Refusal 8.
 pub fn refusal_8(bytes: &[u8]) -> bool {
-    let n = bytes[STATE_COUNT_AT] as usize;
-    let m = bytes[EVENT_COUNT_AT] as usize;
-    for e in 0..m {
-        for s in 0..n {
-            for t in n..64 {
-                if row_bit(bytes, row_at(n, m, e, s), t) {
+    let layout = Layout::of(bytes);
+    for e in 0..layout.m {
+        for s in 0..layout.n {
+            for t in layout.n..64 {
+                if row_bit(bytes, layout.row_at(e, s), t) {
                     return true;
                 }
             }
@@ -285,10 +487,17 @@ pub fn refusal_8(bytes: &[u8]) -> bool {
     false
 }
 
-/// "Order" and request d: the refusals of a record, in the order in which they are tested.
-pub const ORDER: [u32; 9] = [1, 2, 3, 4, 5, 6, 7, 16, 8];
+/// "Order", requests d and k: the refusals of a record, in the order in which they are tested.
+pub const ORDER: [u32; 10] = [1, 2, 3, 4, 5, 20, 6, 7, 16, 8];
 
-/// Does the refusal of this number apply? Of 1 to 5, those before it must not.
+/// Those of them that can come: some come for one kind alone.
+pub fn order() -> Vec<u32> {
+    let cannot_come =
+        |number: u32| FORMS.iter().any(|form| form.refusals.contains(&number) && !is_described(form.kind));
+    ORDER.into_iter().filter(|&number| !cannot_come(number)).collect()
+}
+
+/// Does the refusal of this number apply? Of 1 to 5 and 20, those before it must not.
 pub fn applies(number: u32, bytes: &[u8]) -> bool {
     match number {
         1 => refusal_1(bytes),
@@ -296,6 +505,7 @@ pub fn applies(number: u32, bytes: &[u8]) -> bool {
         3 => refusal_3(bytes),
         4 => refusal_4(bytes),
         5 => refusal_5(bytes),
+        20 => refusal_20(bytes),
         6 => refusal_6(bytes),
         7 => refusal_7(bytes),
         16 => refusal_16(bytes),
@@ -322,29 +532,29 @@ pub fn read(bytes: &[u8]) -> Result<Part, u32> {
     }
 }
 
-/// The fields of a record that refusals 1 to 7 leave alone; bits of rows at n and above are left out.
+/// The fields of a record that refusals 1 to 7 and 20 leave alone; bits of rows at n and above are left out.
 pub fn fields(bytes: &[u8]) -> Part {
-    let n = bytes[STATE_COUNT_AT] as usize;
-    let m = bytes[EVENT_COUNT_AT] as usize;
-    let mut classes = Vec::new();
-    for s in 0..n {
-        classes.push(bytes[class_at(s)]);
+    let layout = Layout::of(bytes);
+    let mut observers = Vec::new();
+    for (i, level) in observer_levels(bytes).into_iter().enumerate() {
+        observers.push(Observer { level, classes: classes_of(bytes, i).to_vec() });
     }
     let mut events = Vec::new();
-    for e in 0..m {
-        let at = entry_at(n, e);
+    for e in 0..layout.m {
+        let at = layout.entry_at(e);
         let kind = match bytes[at + 2] {
             0 => Kind::Input,
             1 => Kind::Output,
             _ => Kind::Internal,
         };
-        events.push(Event { identifier: u16_at(bytes, at), kind, level: bytes[level_at(n, e)] });
+        events.push(Event { identifier: u16_at(bytes, at), kind, level: bytes[layout.level_at(e)] });
     }
-    let mut part = Part::without_steps(bytes[OBSERVER_AT], bytes[START_AT] as usize, classes, events);
-    for e in 0..m {
-        for s in 0..n {
-            for t in 0..n {
-                part.steps[e][s][t] = row_bit(bytes, row_at(n, m, e, s), t);
+    let steps = vec![vec![vec![false; layout.n]; layout.n]; layout.m];
+    let mut part = Part { states: layout.n, start: bytes[START_AT] as usize, events, steps, observers };
+    for e in 0..layout.m {
+        for s in 0..layout.n {
+            for t in 0..layout.n {
+                part.steps[e][s][t] = row_bit(bytes, layout.row_at(e, s), t);
             }
         }
     }
@@ -361,19 +571,25 @@ pub fn push_u32(bytes: &mut Vec<u8>, number: u32) {
     push_u16(bytes, (number / 65536) as u16);
 }
 
-/// Writes the record of a part of at most 64 states.
+/// Writes the record of a part of at most 64 states. One observer makes it kind 1, several make it kind 2.
 pub fn write(part: &Part) -> Vec<u8> {
-    let n = part.state_count();
-    let m = part.event_count();
+    let layout = Layout::of_part(part);
+    let (n, m) = (layout.n, layout.m);
     let mut bytes = Vec::new();
-    push_u32(&mut bytes, body_length(n, m) as u32);
-    push_u16(&mut bytes, 1);
-    bytes.push(part.observer);
+    push_u32(&mut bytes, layout.body_length() as u32);
+    push_u16(&mut bytes, layout.form.kind);
+    bytes.push(match layout.form.first {
+        First::Level => part.observers[0].level,
+        First::Count => part.observers.len() as u8,
+    });
     bytes.push(n as u8);
     bytes.push(part.start as u8);
     bytes.push(m as u8);
-    for s in 0..n {
-        bytes.push(part.classes[s]);
+    if layout.form.first == First::Count {
+        bytes.extend_from_slice(&part.levels());
+    }
+    for observer in &part.observers {
+        bytes.extend_from_slice(&observer.classes);
     }
     for e in 0..m {
         push_u16(&mut bytes, part.events[e].identifier);
@@ -394,8 +610,42 @@ pub fn write(part: &Part) -> Vec<u8> {
     bytes
 }
 
+/// For the tests: kinds that are described for a while, on the test's own thread alone.
+#[cfg(test)]
+pub mod described {
+    use std::cell::Cell;
+
+    thread_local! {
+        static DESCRIBED: Cell<&'static [u16]> = const { Cell::new(super::KINDS) };
+    }
+
+    pub fn kinds() -> &'static [u16] {
+        DESCRIBED.get()
+    }
+
+    /// What was described before; it is again once this is dropped.
+    pub struct Before(&'static [u16]);
+
+    impl Drop for Before {
+        fn drop(&mut self) {
+            DESCRIBED.set(self.0);
+        }
+    }
+
+    /// Describes kinds 1 and 2 for as long as the answer is kept.
+    pub fn describe_lists() -> Before {
+        describe(&[1, 2])
+    }
+
+    /// Describes these kinds for as long as the answer is kept.
+    pub fn describe(kinds: &'static [u16]) -> Before {
+        Before(DESCRIBED.replace(kinds))
+    }
+}
+
 #[cfg(test)]
 mod tests {
+    use super::described::{describe, describe_lists};
     use super::*;
     use crate::examples;
     use crate::make;
@@ -413,7 +663,8 @@ mod tests {
 
     #[test]
     fn the_largest_record() {
-        assert_eq!(body_length(64, 32), 16_580);
+        let form = FORMS[0];
+        assert_eq!(Layout { form, observers: 1, n: 64, m: 32 }.body_length(), 16_580);
     }
 
     #[test]
@@ -421,6 +672,11 @@ mod tests {
         let mut rng = Rng::new(11);
         for _ in 0..200 {
             let part = make::any_passing(&mut rng);
+            assert_eq!(read(&write(&part)), Ok(part));
+        }
+        let _before = describe_lists();
+        for _ in 0..200 {
+            let part = make::any_list(&mut rng);
             assert_eq!(read(&write(&part)), Ok(part));
         }
         assert_eq!(write(&read(&examples::p()).unwrap()), examples::p());
@@ -477,6 +733,166 @@ mod tests {
         assert_eq!(changed(51, 0x80), Some(8));
     }
 
+    /// Request k: "Refusal 3 is now a kind not described so far".
+    #[test]
+    fn kinds_not_described() {
+        let _before = describe(&[1]);
+        assert_eq!(first_refusal(&examples::p()), None);
+        assert_eq!(first_refusal(&examples::p_for_two()), Some(3));
+        assert_eq!(order(), [1, 2, 3, 4, 5, 6, 7, 16, 8]);
+        assert_eq!(longest(), 16_586);
+        let _before = describe_lists();
+        assert_eq!(first_refusal(&examples::p()), None);
+        assert_eq!(first_refusal(&examples::p_for_two()), None);
+        for (at, byte) in [(4, 0), (4, 3), (4, 0xFF), (5, 1)] {
+            assert_eq!(first_refusal(&examples::p_for_two_with(&[(at, byte)])), Some(3));
+        }
+        assert_eq!(order(), [1, 2, 3, 4, 5, 20, 6, 7, 16, 8]);
+        assert_eq!(longest(), 16_782);
+    }
+
+    /// Request k: the count, n, start and m, the observers, a class column for each, the entries, the rows.
+    #[test]
+    fn fields_of_a_list() {
+        let _before = describe_lists();
+        let p = read(&examples::p()).unwrap();
+        let part = read(&examples::p_for_two()).unwrap();
+        let first = Observer { level: 0x00, classes: vec![0, 0] };
+        let second = Observer { level: 0x40, classes: vec![0, 1] };
+        assert_eq!(p.observers, [first.clone()]);
+        assert_eq!(part.observers, [first, second]);
+        assert_eq!((part.states, part.start, &part.events, &part.steps), (2, 0, &p.events, &p.steps));
+        assert_eq!(write(&part), examples::p_for_two());
+        // Input 1 is high for the first observer and low for the second.
+        assert_eq!([part.view(0).is_high(0), part.view(1).is_high(0)], [true, false]);
+        assert_eq!([part.view(0).same_class(0, 1), part.view(1).same_class(0, 1)], [true, false]);
+        assert_eq!([part.view(0).class_count(), part.view(1).class_count()], [1, 2]);
+        // One observer makes it kind 1 again.
+        assert_eq!(write(&Part { observers: part.observers[..1].to_vec(), ..part }), examples::p());
+        assert_eq!(write(&read(&examples::z_for_two()).unwrap()), examples::z_for_two());
+        assert_eq!(examples::z_for(&[0x00, 0x40]), examples::z_for_two());
+    }
+
+    /// Request k: "4 + c + cn + 4m + 8mn for count c".
+    #[test]
+    fn lengths_of_lists() {
+        let length = |observers: usize, n: usize, m: usize| Layout { form: FORMS[1], observers, n, m }.body_length();
+        assert_eq!(length(2, 2, 2), 50);
+        assert_eq!(length(4, 64, 32), 16_776);
+        assert_eq!(length(0, 2, 2), 44);
+        assert_eq!(length(255, 2, 2), 4 + 255 + 510 + 40);
+    }
+
+    /// P for two observers with other counts, and the record for so many observers: 5 is tested before 20, with the count
+    /// as it stands.
+    #[test]
+    fn counts_out_of_range() {
+        let _before = describe_lists();
+        for count in [0, 1, 3, 4, 5, 255] {
+            assert_eq!(first_refusal(&examples::p_for_two_with(&[(6, count)])), Some(5));
+        }
+        // The length of five observers, and a count of 255 or of two.
+        let with_length_of_5 = |count: u8| {
+            let mut bytes = examples::p_for_two_with(&[(0, 59), (6, count)]);
+            bytes.extend_from_slice(&[0; 9]);
+            first_refusal(&bytes)
+        };
+        assert_eq!([with_length_of_5(255), with_length_of_5(2), with_length_of_5(5)], [Some(5), Some(5), Some(20)]);
+        let all: Vec<u8> = (0..=254).collect();
+        for (levels, refusal) in [
+            (&[][..], Some(20)),
+            (&[0x00], Some(20)),
+            (&[0x00, 0x40], None),
+            (&[0x00, 0x40, 0x41], None),
+            (&[0x00, 0x40, 0x41, 0xFF], None),
+            (&[0x00, 0x40, 0x41, 0x80, 0xFF], Some(20)),
+            (&all, Some(20)),
+        ] {
+            // Z for so many observers: one state, and no events.
+            let mut bytes = Vec::new();
+            push_u32(&mut bytes, 4 + 2 * levels.len() as u32);
+            bytes.extend_from_slice(&[2, 0, levels.len() as u8, 1, 0, 0]);
+            bytes.extend_from_slice(levels);
+            bytes.extend_from_slice(&vec![0; levels.len()]);
+            assert_eq!(first_refusal(&bytes), refusal, "{} observers", levels.len());
+        }
+    }
+
+    /// Request k: "observers in strictly rising byte order".
+    #[test]
+    fn observers_that_do_not_rise() {
+        let _before = describe_lists();
+        for (levels, refusal) in [
+            (&[0x40, 0x40][..], Some(20)),
+            (&[0x40, 0x00], Some(20)),
+            (&[0x41, 0x80], None),
+            (&[0x00, 0x40, 0x40], Some(20)),
+            (&[0x00, 0x80, 0x40], Some(20)),
+            (&[0x00, 0x00, 0x40], Some(20)),
+            (&[0x00, 0x40, 0x80, 0x80], Some(20)),
+            (&[0x00, 0x40, 0x80, 0x7F], Some(20)),
+            (&[0x7F, 0x80, 0xFE, 0xFF], None),
+        ] {
+            assert_eq!(first_refusal(&examples::z_for(levels)), refusal, "{:?}", levels);
+        }
+    }
+
+    /// Minimal damages to P for two observers. Its observers are bytes 10 and 11, its columns 12 and 13, 14 and 15; its
+    /// entries begin at 16 and 20, its rows at 24.
+    #[test]
+    fn each_refusal_of_a_list_by_a_minimal_damage() {
+        let _before = describe_lists();
+        for (at, byte, refusal) in [
+            (0, 0x31, 2),
+            (7, 0, 4),
+            (7, 65, 4),
+            (8, 2, 4),
+            (9, 33, 4),
+            (7, 3, 5),
+            (9, 1, 5),
+            (10, 0x40, 20),
+            (11, 0x00, 20),
+            (12, 1, 6),
+            (13, 2, 6),
+            (14, 1, 6),
+            (15, 2, 6),
+            (18, 3, 7),
+            (20, 1, 7),
+            (22, 3, 7),
+            (10, 0x01, 16),
+            (11, 0x3F, 16),
+            (19, 0x01, 16),
+            (23, 0x01, 16),
+            (24, 6, 8),
+            (55, 0x80, 8),
+        ] {
+            assert_eq!(first_refusal(&examples::p_for_two_with(&[(at, byte)])), Some(refusal), "byte {}", at);
+        }
+        assert_eq!(first_refusal(&examples::p_for_two()[..55]), Some(2));
+        assert_eq!(first_refusal(&[3, 0, 0, 0, 2, 0, 2, 1, 0]), Some(4));
+        assert_eq!(first_refusal(&[0, 0, 0, 0, 2, 0]), Some(4));
+    }
+
+    /// Request k: 20 comes after 5 and before 6. Every damage is in place; they are taken away from the first one on.
+    #[test]
+    fn order_of_refusals_of_a_list() {
+        let _before = describe_lists();
+        let p = examples::p_for_two();
+        let mut bytes = p.clone();
+        // A stray bit, a bad level, a kind above 2, a class too high in the second column, equal observers, 33 events, a
+        // kind that is not described, a wrong length.
+        for (at, byte) in [(55, 0x80), (23, 0x3F), (18, 3), (15, 2), (10, 0x40), (9, 33), (4, 7), (0, 0x31)] {
+            bytes[at] = byte;
+        }
+        for (number, at) in [(2, 0), (3, 4), (4, 9), (20, 10), (6, 15), (7, 18), (16, 23), (8, 55)] {
+            assert_eq!(first_refusal(&bytes), Some(number));
+            bytes[at] = p[at];
+        }
+        assert_eq!(bytes, p);
+        // One event too few for the length, and observers that do not rise.
+        assert_eq!(first_refusal(&examples::p_for_two_with(&[(9, 1), (11, 0)])), Some(5));
+    }
+
     /// 63 of the 256 levels: 0x01 to 0x3F.
     #[test]
     fn mislabelled_levels() {
@@ -492,7 +908,8 @@ mod tests {
     /// P with another observer, or with another level of its first or its last event.
     #[test]
     fn mislabelled_records() {
-        for at in [OBSERVER_AT, level_at(2, 0), level_at(2, 1)] {
+        let layout = Layout::of(&examples::p());
+        for at in [layout.observer_at(0), layout.level_at(0), layout.level_at(1)] {
             for (level, refusal) in
                 [(0x01, Some(16)), (0x20, Some(16)), (0x3F, Some(16)), (0x00, None), (0x40, None), (0x41, None)]
             {
@@ -504,9 +921,9 @@ mod tests {
         }
         // Z has no event to look at.
         let mut z = examples::z();
-        z[OBSERVER_AT] = 0x01;
+        z[FIRST_AT] = 0x01;
         assert_eq!(first_refusal(&z), Some(16));
-        z[OBSERVER_AT] = 0x41;
+        z[FIRST_AT] = 0x41;
         assert_eq!(first_refusal(&z), None);
     }
 
@@ -527,7 +944,7 @@ mod tests {
         // One event too few for the length, and a class too high or a bad observer.
         bytes[9] = 1;
         bytes[10] = 1;
-        bytes[OBSERVER_AT] = 0x01;
+        bytes[FIRST_AT] = 0x01;
         assert_eq!(first_refusal(&bytes), Some(5));
         bytes[9] = 2;
         assert_eq!(first_refusal(&bytes), Some(6));

@@ -249,6 +249,8 @@ mod tests {
     use super::*;
     use crate::examples;
     use crate::make::Script;
+    use crate::record;
+    use crate::record::described::{describe, describe_lists};
 
     fn text(script: &[u8]) -> String {
         String::from_utf8(replay(script).output).unwrap()
@@ -302,6 +304,31 @@ mod tests {
             "aa".repeat(200 - used - 52)
         );
         assert_eq!(text(&script.bytes), expected);
+    }
+
+    /// The line of a break tells no level.
+    #[test]
+    fn lines_for_lists() {
+        let mut script = Script::new(200);
+        script.clear();
+        script.load(&examples::p_for_two());
+        script.load(&record::write(&examples::t_for_two([0, 0, 0], [0, 0, 1])));
+        script.load(&examples::p_for_two_with(&[(11, 0)]));
+        script.load(&examples::q());
+        script.hookup(0, 1);
+        script.part(0);
+        let front = format!("{}{}{}", hex(&examples::p_for_two()), hex(&examples::q()), "000000000000");
+        let expected = format!(
+            "0\npart 0\nrule 5 event 1 from 0 to 2 other 1\nrefused 20\npart 1\nrefused 9\npart bytes 56 {}\nshelf {}{}\n",
+            hex(&examples::p_for_two()),
+            front,
+            "aa".repeat(200 - 56 - 23 - 6)
+        );
+        let before = describe_lists();
+        assert_eq!(text(&script.bytes), expected);
+        drop(before);
+        let _before = describe(&[1]);
+        assert!(text(&script.bytes).starts_with("0\nrefused 3\nrefused 3\nrefused 3\npart 0\n"));
     }
 
     #[test]

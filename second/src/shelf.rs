@@ -128,6 +128,7 @@ pub fn part(shelf: &[u8], i: usize) -> &[u8] {
 mod tests {
     use super::*;
     use crate::examples;
+    use crate::record::described::describe_lists;
 
     #[test]
     fn examples_of_shelf_length() {
@@ -164,6 +165,26 @@ mod tests {
         assert_eq!(load(&mut six, &examples::z()), Answer::Refused(15));
         assert_eq!(hookup(&mut six, 0, 0), Answer::Refused(13));
         assert_eq!(six, vec![0; 6]);
+    }
+
+    /// Parts of one observer and of two stand side by side; they do not join.
+    #[test]
+    fn lists_on_the_shelf() {
+        let _before = describe_lists();
+        let mut shelf = vec![0x55; 300];
+        clear(&mut shelf);
+        assert_eq!(load(&mut shelf, &examples::p_for_two()), Answer::Part(0));
+        assert_eq!(load(&mut shelf, &examples::q_for_two()), Answer::Part(1));
+        assert_eq!(load(&mut shelf, &examples::q()), Answer::Part(2));
+        assert_eq!(load(&mut shelf, &examples::p_for_two_with(&[(11, 0)])), Answer::Refused(20));
+        assert_eq!(hookup(&mut shelf, 0, 2), Answer::Refused(9));
+        assert_eq!(hookup(&mut shelf, 2, 0), Answer::Refused(9));
+        assert_eq!(hookup(&mut shelf, 0, 1), Answer::Part(3));
+        assert_eq!(part(&shelf, 3), &examples::p_for_two_with(&[(22, 2)])[..]);
+        assert_eq!(count(&shelf), Some(4));
+        // The second observer's column changed on the shelf: its class 1 is not numbered by first appearance any more.
+        shelf[14] = 1;
+        assert_eq!(hookup(&mut shelf, 0, 1), Answer::Refused(14));
     }
 
     fn answer_of_p_0_1() -> Answer {

@@ -1,19 +1,19 @@
 //! Wrong readings of how many states were taken up, to count the inputs on which they would show. Nothing here decides
 //! an answer.
 
-use crate::check::{first_break, quiet_reaches, quiet_steps, reach, Break};
+use crate::check::{break_for, quiet_reaches, quiet_steps, reach, Break};
 use crate::closure::least_steps;
 use crate::explain::sum_of_sizes;
-use crate::record::Part;
+use crate::record::View;
 use crate::wrong_internal::as_outputs;
 
-/// A count for a part with these quiet reaches and this first break.
-pub type Count = fn(&Part, &[Vec<bool>], Option<Break>) -> u64;
+/// A count for the observer told, with these quiet reaches and this first break.
+pub type Count = fn(View, &[Vec<bool>], Option<Break>) -> u64;
 
 pub const COUNTS: [(&str, Count); 21] = [
-    ("classes in the place of states", |part, reaches, found| when_reported(found, classes_reached(part, reaches))),
-    ("without the state itself", |part, reaches, found| when_reported(found, sum_of_sizes(reaches) - size(part))),
-    ("the start state's reach alone", |part, reaches, found| when_reported(found, sum_of_one(reaches, part.start))),
+    ("classes in the place of states", |view, reaches, found| when_reported(found, classes_reached(view, reaches))),
+    ("without the state itself", |view, reaches, found| when_reported(found, sum_of_sizes(reaches) - size(view))),
+    ("the start state's reach alone", |view, reaches, found| when_reported(found, sum_of_one(reaches, view.start))),
     ("the reach of u alone at a break", |_, reaches, found| match found {
         Some(broken) => when_reported(found, sum_of_one(reaches, broken.u)),
         None => sum_of_sizes(reaches),
@@ -22,30 +22,30 @@ pub const COUNTS: [(&str, Count); 21] = [
         Some(broken) => when_reported(found, sum_of_sizes(&reaches[..broken.u + 1])),
         None => sum_of_sizes(reaches),
     }),
-    ("each state once", |part, _, found| when_reported(found, size(part))),
-    ("n for each state", |part, _, found| when_reported(found, size(part) * size(part))),
-    ("the first state of each class alone", |part, reaches, found| {
-        when_reported(found, of_first_states(part, reaches))
+    ("each state once", |view, _, found| when_reported(found, size(view))),
+    ("n for each state", |view, _, found| when_reported(found, size(view) * size(view))),
+    ("the first state of each class alone", |view, reaches, found| {
+        when_reported(found, of_first_states(view, reaches))
     }),
-    ("states that traces lead to alone", |part, reaches, found| when_reported(found, of_reached_states(part, reaches))),
-    ("each state and its single steps", |part, _, found| when_reported(found, of_single_steps(part, true))),
-    ("single steps, each counted", |part, _, found| when_reported(found, of_single_steps(part, false))),
-    ("the sum of the distances", |part, _, found| when_reported(found, sum_of_distances(part))),
+    ("states that traces lead to alone", |view, reaches, found| when_reported(found, of_reached_states(view, reaches))),
+    ("each state and its single steps", |view, _, found| when_reported(found, of_single_steps(view, true))),
+    ("single steps, each counted", |view, _, found| when_reported(found, of_single_steps(view, false))),
+    ("the sum of the distances", |view, _, found| when_reported(found, sum_of_distances(view))),
     ("not zero at a break of rule 1", |_, reaches, found| when_in(&[0, 1, 4, 5], found, sum_of_sizes(reaches))),
     ("not zero at a break of rule 2", |_, reaches, found| when_in(&[0, 2, 4, 5], found, sum_of_sizes(reaches))),
     ("not zero at a break of rule 3", |_, reaches, found| when_in(&[0, 3, 4, 5], found, sum_of_sizes(reaches))),
     ("zero at a break of rule 4", |_, reaches, found| when_in(&[0, 5], found, sum_of_sizes(reaches))),
     ("zero at a break of rule 5", |_, reaches, found| when_in(&[0, 4], found, sum_of_sizes(reaches))),
     ("zero at a pass", |_, reaches, found| when_in(&[4, 5], found, sum_of_sizes(reaches))),
-    ("zero where no quiet step leads on", |part, reaches, found| match sum_of_sizes(reaches) {
-        sum if sum == size(part) => 0,
+    ("zero where no quiet step leads on", |view, reaches, found| match sum_of_sizes(reaches) {
+        sum if sum == size(view) => 0,
         sum => when_reported(found, sum),
     }),
-    ("zero where each state has its own class", |part, reaches, found| match part.class_count() {
-        classes if classes == part.state_count() => 0,
+    ("zero where each state has its own class", |view, reaches, found| match view.class_count() {
+        classes if classes == view.state_count() => 0,
         _ => when_reported(found, sum_of_sizes(reaches)),
     }),
-    ("internal events like outputs", |part, _, _| of_document_01(part)),
+    ("internal events like outputs", |view, _, _| of_document_01(view)),
 ];
 
 /// A sum where one of these rules is broken first, 0 standing for a pass; otherwise zero.
@@ -66,8 +66,8 @@ pub fn when_reported(found: Option<Break>, sum: u64) -> u64 {
     when_in(&[0, 4, 5], found, sum)
 }
 
-fn size(part: &Part) -> u64 {
-    part.state_count() as u64
+fn size(view: View) -> u64 {
+    view.state_count() as u64
 }
 
 fn sum_of_one(reaches: &[Vec<bool>], s: usize) -> u64 {
@@ -75,11 +75,11 @@ fn sum_of_one(reaches: &[Vec<bool>], s: usize) -> u64 {
 }
 
 /// In each quiet reach the classes are counted.
-fn classes_reached(part: &Part, reaches: &[Vec<bool>]) -> u64 {
+fn classes_reached(view: View, reaches: &[Vec<bool>]) -> u64 {
     let mut sum = 0;
     for reach in reaches {
-        for class in 0..part.class_count() {
-            if (0..reach.len()).any(|t| reach[t] && part.classes[t] as usize == class) {
+        for class in 0..view.class_count() {
+            if (0..reach.len()).any(|t| reach[t] && view.observer.classes[t] as usize == class) {
                 sum += 1;
             }
         }
@@ -88,10 +88,10 @@ fn classes_reached(part: &Part, reaches: &[Vec<bool>]) -> u64 {
 }
 
 /// One state stands for its class.
-fn of_first_states(part: &Part, reaches: &[Vec<bool>]) -> u64 {
+fn of_first_states(view: View, reaches: &[Vec<bool>]) -> u64 {
     let mut sum = 0;
-    for s in 0..part.state_count() {
-        if !(0..s).any(|before| part.same_class(before, s)) {
+    for s in 0..view.state_count() {
+        if !(0..s).any(|before| view.same_class(before, s)) {
             sum += sum_of_one(reaches, s);
         }
     }
@@ -99,38 +99,39 @@ fn of_first_states(part: &Part, reaches: &[Vec<bool>]) -> u64 {
 }
 
 /// States that no trace leads to are left out.
-fn of_reached_states(part: &Part, reaches: &[Vec<bool>]) -> u64 {
-    let n = part.state_count();
+fn of_reached_states(view: View, reaches: &[Vec<bool>]) -> u64 {
+    let n = view.state_count();
     let mut table = vec![vec![false; n]; n];
     for s in 0..n {
         for t in 0..n {
-            table[s][t] = (0..part.event_count()).any(|e| part.leads(e, s, t));
+            table[s][t] = (0..view.event_count()).any(|e| view.leads(e, s, t));
         }
     }
-    let reached = reach(&table, part.start);
+    let reached = reach(&table, view.start);
     (0..n).filter(|&s| reached[s]).map(|s| sum_of_one(reaches, s)).sum()
 }
 
 /// One quiet step at most is taken from each state, which is counted too or not.
-fn of_single_steps(part: &Part, with_the_state: bool) -> u64 {
-    let mut table = quiet_steps(part);
-    for s in 0..part.state_count() {
+fn of_single_steps(view: View, with_the_state: bool) -> u64 {
+    let mut table = quiet_steps(view);
+    for s in 0..view.state_count() {
         table[s][s] = table[s][s] || with_the_state;
     }
     sum_of_sizes(&table)
 }
 
 /// Document 01's reading of internal events, for the verdict and for the quiet reaches.
-fn of_document_01(part: &Part) -> u64 {
-    let changed = as_outputs(part);
-    when_reported(first_break(&changed), sum_of_sizes(&quiet_reaches(&changed)))
+fn of_document_01(view: View) -> u64 {
+    let changed = as_outputs(view.part);
+    let changed = View { part: &changed, observer: view.observer };
+    when_reported(break_for(changed), sum_of_sizes(&quiet_reaches(changed)))
 }
 
 /// The numbers of steps are added up.
-fn sum_of_distances(part: &Part) -> u64 {
-    let table = quiet_steps(part);
+fn sum_of_distances(view: View) -> u64 {
+    let table = quiet_steps(view);
     let mut sum = 0;
-    for s in 0..part.state_count() {
+    for s in 0..view.state_count() {
         for steps in least_steps(&table, s).iter().flatten() {
             sum += *steps as u64;
         }
@@ -141,12 +142,13 @@ fn sum_of_distances(part: &Part) -> u64 {
 #[cfg(test)]
 mod tests {
     use super::*;
+    use crate::check::first_break;
     use crate::examples;
-    use crate::record;
+    use crate::record::{self, Part};
 
     fn counts(part: &Part) -> Vec<u64> {
-        let reaches = quiet_reaches(part);
-        COUNTS.iter().map(|(_, count)| count(part, &reaches, first_break(part))).collect()
+        let reaches = quiet_reaches(part.view(0));
+        COUNTS.iter().map(|(_, count)| count(part.view(0), &reaches, first_break(part))).collect()
     }
 
     /// T with a high output breaks rule 4 with u = 1; its quiet reaches are 0 and 2, 1, 2.
@@ -155,10 +157,10 @@ mod tests {
         let mut part = record::read(&examples::t_high_output()).unwrap();
         assert_eq!(counts(&part), [4, 1, 2, 1, 3, 3, 9, 3, 3, 4, 1, 1, 4, 4, 4, 0, 4, 4, 4, 4, 4]);
         // With a class for each state it passes.
-        part.classes = vec![0, 1, 2];
+        part.observers[0].classes = vec![0, 1, 2];
         assert_eq!(counts(&part), [4, 1, 2, 4, 4, 3, 9, 4, 3, 4, 1, 1, 4, 4, 4, 4, 4, 0, 4, 0, 4]);
         // In one class it passes too.
-        part.classes = vec![0, 0, 0];
+        part.observers[0].classes = vec![0, 0, 0];
         assert_eq!(counts(&part)[0], 3);
         assert_eq!(counts(&part)[7], 2);
         let rule_3 = record::read(&examples::t_low_input()).unwrap();

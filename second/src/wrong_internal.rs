@@ -2,82 +2,91 @@
 //! Document 02, request i.
 
 use crate::check::{self, Break};
-use crate::record::{Kind, Part};
+use crate::record::{Kind, Part, View};
 use crate::wrong_closure::steps_by;
 
 /// Which internal events are quiet, and the rule that each falls under, if there is one.
 #[derive(Clone, Copy)]
 pub struct Reading {
     pub name: &'static str,
-    is_quiet: fn(&Part, usize) -> bool,
-    rule: fn(&Part, usize) -> Option<u32>,
+    is_quiet: fn(View, usize) -> bool,
+    rule: fn(View, usize) -> Option<u32>,
 }
 
 const RIGHT: Reading = Reading { name: "right", is_quiet: |_, _| true, rule: |_, _| Some(4) };
 
 /// The first one is document 01's, which request i replaces.
 pub const READINGS: [Reading; 11] = [
-    Reading { name: "like outputs", is_quiet: Part::is_high, rule: rule_of_output },
+    Reading { name: "like outputs", is_quiet: |view, e| view.is_high(e), rule: rule_of_output },
     Reading { name: "all quiet, low ones under rule 5", rule: rule_of_output, ..RIGHT },
-    Reading { name: "all under rule 4, low ones not quiet", is_quiet: Part::is_high, ..RIGHT },
+    Reading { name: "all under rule 4, low ones not quiet", is_quiet: |view, e| view.is_high(e), ..RIGHT },
     Reading { name: "all quiet, low ones under no rule", rule: rule_4_if_high, ..RIGHT },
-    Reading { name: "low ones neither quiet nor under a rule", is_quiet: Part::is_high, rule: rule_4_if_high },
-    Reading { name: "all under rule 4, high ones not quiet", is_quiet: Part::is_low, ..RIGHT },
+    Reading {
+        name: "low ones neither quiet nor under a rule",
+        is_quiet: |view, e| view.is_high(e),
+        rule: rule_4_if_high,
+    },
+    Reading { name: "all under rule 4, high ones not quiet", is_quiet: |view, e| view.is_low(e), ..RIGHT },
     Reading { name: "all under rule 4, none quiet", is_quiet: |_, _| false, ..RIGHT },
     Reading { name: "all quiet, none under a rule", rule: |_, _| None, ..RIGHT },
     Reading { name: "all quiet, all under rule 5", rule: |_, _| Some(5), ..RIGHT },
     Reading { name: "none quiet, none under a rule", is_quiet: |_, _| false, rule: |_, _| None },
     Reading {
         name: "those of the observer's own level like outputs",
-        is_quiet: |part, e| !is_own_level(part, e),
-        rule: |part, e| Some(if is_own_level(part, e) { 5 } else { 4 }),
+        is_quiet: |view, e| !is_own_level(view, e),
+        rule: |view, e| Some(if is_own_level(view, e) { 5 } else { 4 }),
     },
 ];
 
-fn rule_of_output(part: &Part, e: usize) -> Option<u32> {
-    Some(if part.is_low(e) { 5 } else { 4 })
+fn rule_of_output(view: View, e: usize) -> Option<u32> {
+    Some(if view.is_low(e) { 5 } else { 4 })
 }
 
-fn rule_4_if_high(part: &Part, e: usize) -> Option<u32> {
-    if part.is_high(e) {
+fn rule_4_if_high(view: View, e: usize) -> Option<u32> {
+    if view.is_high(e) {
         Some(4)
     } else {
         None
     }
 }
 
-fn is_own_level(part: &Part, e: usize) -> bool {
-    part.events[e].level == part.observer
+fn is_own_level(view: View, e: usize) -> bool {
+    view.events[e].level == view.level()
 }
 
 impl Reading {
-    fn counts_as_quiet(&self, part: &Part, e: usize) -> bool {
-        if part.is_internal(e) {
-            (self.is_quiet)(part, e)
+    fn counts_as_quiet(&self, view: View, e: usize) -> bool {
+        if view.is_internal(e) {
+            (self.is_quiet)(view, e)
         } else {
-            part.is_quiet(e)
+            view.is_quiet(e)
         }
     }
 
     /// The rule that an output or internal event falls under.
-    fn rule_for(&self, part: &Part, e: usize) -> Option<u32> {
-        if part.is_internal(e) {
-            (self.rule)(part, e)
-        } else if part.is_output(e) {
-            rule_of_output(part, e)
+    fn rule_for(&self, view: View, e: usize) -> Option<u32> {
+        if view.is_internal(e) {
+            (self.rule)(view, e)
+        } else if view.is_output(e) {
+            rule_of_output(view, e)
         } else {
             None
         }
     }
 
+    /// The first break by this reading, for one observer.
+    fn break_for(&self, view: View) -> Option<Break> {
+        let table = steps_by(view, |view, e| self.counts_as_quiet(view, e));
+        let reaches: Vec<Vec<bool>> = (0..view.state_count()).map(|s| check::reach(&table, s)).collect();
+        let under = |rule: u32| (0..view.event_count()).filter(move |&e| self.rule_for(view, e) == Some(rule));
+        check::first_break_of_inputs(view)
+            .or_else(|| under(4).find_map(|e| check::rule_4_for(view, &reaches, e)))
+            .or_else(|| under(5).find_map(|e| check::rule_5_for(view, &reaches, e)))
+    }
+
     /// The first break by this reading.
     pub fn first_break(&self, part: &Part) -> Option<Break> {
-        let table = steps_by(part, |part, e| self.counts_as_quiet(part, e));
-        let reaches: Vec<Vec<bool>> = (0..part.state_count()).map(|s| check::reach(&table, s)).collect();
-        let under = |rule: u32| (0..part.event_count()).filter(move |&e| self.rule_for(part, e) == Some(rule));
-        check::first_break_of_inputs(part)
-            .or_else(|| under(4).find_map(|e| check::rule_4_for(part, &reaches, e)))
-            .or_else(|| under(5).find_map(|e| check::rule_5_for(part, &reaches, e)))
+        part.views().into_iter().find_map(|view| self.break_for(view))
     }
 
     pub fn passes(&self, part: &Part) -> bool {
@@ -92,7 +101,7 @@ pub fn reading(name: &str) -> Reading {
 
 /// The wrong readings by which a part would pass where it breaks, break where it passes, or break another rule.
 pub fn readings_that_differ(part: &Part, found: Option<Break>) -> Vec<&'static str> {
-    if matches!(found, Some(Break { rule: 1..=3, .. })) {
+    if matches!(found, Some(Break { rule: 1..=3, observer, .. }) if observer == part.observers[0].level) {
         return Vec::new();
     }
     let rule = |found: Option<Break>| found.map(|found| found.rule);

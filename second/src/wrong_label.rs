@@ -1,27 +1,29 @@
 //! Wrong readings of refusal 16, to count the inputs on which they would show. Nothing here decides an answer.
 
-use crate::record::{
-    applies, at_or_below, entry_at, first_refusal, is_mislabelled, level_at, rank, EVENT_COUNT_AT, OBSERVER_AT, ORDER,
-    STATE_COUNT_AT,
-};
+use crate::record::{applies, at_or_below, event_levels, first_refusal, is_mislabelled, observer_levels, rank, Layout};
 
-/// When 16 is tested, where it looks, and which levels it takes for bad.
+/// When 16 is tested among the refusals of its order's end, where it looks, and which levels it takes for bad.
 #[derive(Clone, Copy)]
 pub struct Reading {
     pub name: &'static str,
-    order: [u32; 9],
+    order: [u32; 4],
     looks_at_observer: bool,
     looks_at: fn(&[u8], usize) -> bool,
     is_bad: fn(u8) -> bool,
 }
 
-const RIGHT: Reading =
-    Reading { name: "right", order: ORDER, looks_at_observer: true, looks_at: |_, _| true, is_bad: is_mislabelled };
+const RIGHT: Reading = Reading {
+    name: "right",
+    order: [6, 7, 16, 8],
+    looks_at_observer: true,
+    looks_at: |_, _| true,
+    is_bad: is_mislabelled,
+};
 
 pub const READINGS: [Reading; 20] = [
-    Reading { name: "behind 8", order: [1, 2, 3, 4, 5, 6, 7, 8, 16], ..RIGHT },
-    Reading { name: "before 7", order: [1, 2, 3, 4, 5, 6, 16, 7, 8], ..RIGHT },
-    Reading { name: "before 6", order: [1, 2, 3, 4, 5, 16, 6, 7, 8], ..RIGHT },
+    Reading { name: "behind 8", order: [6, 7, 8, 16], ..RIGHT },
+    Reading { name: "before 7", order: [6, 16, 7, 8], ..RIGHT },
+    Reading { name: "before 6", order: [16, 6, 7, 8], ..RIGHT },
     Reading { name: "observer not looked at", looks_at_observer: false, ..RIGHT },
     Reading { name: "events not looked at", looks_at: |_, _| false, ..RIGHT },
     Reading { name: "first event not looked at", looks_at: |_, e| e > 0, ..RIGHT },
@@ -43,10 +45,9 @@ pub const READINGS: [Reading; 20] = [
 
 impl Reading {
     fn refuses(&self, bytes: &[u8]) -> bool {
-        let n = bytes[STATE_COUNT_AT] as usize;
-        let observer_is_bad = self.looks_at_observer && (self.is_bad)(bytes[OBSERVER_AT]);
-        observer_is_bad
-            || (0..event_count(bytes)).any(|e| (self.looks_at)(bytes, e) && (self.is_bad)(bytes[level_at(n, e)]))
+        let levels = event_levels(bytes);
+        let observer_is_bad = self.looks_at_observer && observer_levels(bytes).into_iter().any(self.is_bad);
+        observer_is_bad || (0..levels.len()).any(|e| (self.looks_at)(bytes, e) && (self.is_bad)(levels[e]))
     }
 
     /// The first refusal by this reading, given those that apply besides 16.
@@ -55,7 +56,7 @@ impl Reading {
     }
 }
 
-/// The refusals behind 5 that apply, besides 16.
+/// The refusals behind 5 and 20 that apply, besides 16.
 fn others(bytes: &[u8]) -> Vec<u32> {
     [6, 7, 8].into_iter().filter(|&number| applies(number, bytes)).collect()
 }
@@ -63,7 +64,7 @@ fn others(bytes: &[u8]) -> Vec<u32> {
 /// The wrong readings by which a record would get another answer.
 pub fn readings_that_differ(bytes: &[u8]) -> Vec<&'static str> {
     let right = first_refusal(bytes);
-    if matches!(right, Some(1..=5)) {
+    if matches!(right, Some(1..=5 | 20)) {
         return Vec::new();
     }
     let others = others(bytes);
@@ -72,15 +73,16 @@ pub fn readings_that_differ(bytes: &[u8]) -> Vec<&'static str> {
 }
 
 fn event_count(bytes: &[u8]) -> usize {
-    bytes[EVENT_COUNT_AT] as usize
+    Layout::of(bytes).m
 }
 
 fn kind(bytes: &[u8], e: usize) -> u8 {
-    bytes[entry_at(bytes[STATE_COUNT_AT] as usize, e) + 2]
+    bytes[Layout::of(bytes).entry_at(e) + 2]
 }
 
+/// For the first observer.
 fn is_low(bytes: &[u8], e: usize) -> bool {
-    at_or_below(bytes[level_at(bytes[STATE_COUNT_AT] as usize, e)], bytes[OBSERVER_AT])
+    at_or_below(event_levels(bytes)[e], observer_levels(bytes)[0])
 }
 
 #[cfg(test)]

@@ -19,15 +19,16 @@ use Rattle.words.proofs.Arrays.{length-padded}
 use Rattle.words.proofs.LittleEndian.{length-digits, length-each}
 use Rattle.words.proofs.LaidLaws.{over-append, each-turn}
 use Rattle.words.proofs.Sets.{mask-same, mask-wider, none-above, represents-mask}
-use Rattle.part.specs.Record.{observer, states}
-use Rattle.part.specs.Rejections.{Accepted}
-use Rattle.part.proofs.Ranges.{frame}
+use Rattle.part.specs.Record.{kind, lead, observers, observer, states}
+use Rattle.screening.specs.Rejections.{Accepted}
+use Rattle.part.proofs.Fields.{formed}
+use Rattle.screening.proofs.Ranges.{frame}
 use Rattle.relations.specs.declared.silent.Closure.{Closure}
 use Rattle.relations.specs.Relations.{step-by, silent-step, reach-for, visits-for, distances-for}
 use Rattle.relations.specs.Sets.{Concerned, in-rows, ClosureFrom}
 use Rattle.relations.proofs.SilentReach.{silent-steps, silent-within, reach-within}
 use Rattle.relations.proofs.Theorems.{rows-within}
-use Rattle.closure.specs.Closures.{piece-bytes, piece, pieces}
+use Rattle.closure.specs.Closures.{piece-bytes, piece, block, pieces}
 use Rattle.closure.specs.Pieces.{piece-by}
 
 -- ---- how many bytes
@@ -78,47 +79,55 @@ piece-laid out at s step {c} found p q r =
     ∙ ap (λ (k : ℕ). over (over out at (digits 8 set ++ visits)) (at + k) distances) (sym front)
     ∙ sym (over-append out at (digits 8 set ++ visits) distances))
 
--- One piece more is laid behind those of the states below s.
-pub pieces-turn : (out : List ℕ) (step : ℕ → ℕ → Bool) (s : ℕ) {before next : List ℕ}
-    → before ≡ over out 0 (each s (piece-by step 64))
-    → next ≡ over before (s * 136) (piece-by step 64 s)
-    → next ≡ over out 0 (each (s + 1) (piece-by step 64))
-pieces-turn out step s {before} laid e =
-    e ∙ ap (λ (k : ℕ). over before k (piece-by step 64 s)) (sym (zero-add (s * 136)))
-    ∙ rw laid (each-turn out 0 s 136 _ (λ u l. length-piece-by step 64 u (omega arith)))
+-- ---- the record's blocks
 
--- ---- the record's pieces
+-- One block more is laid behind those of the observers below o.
+pub blocks-turn : (b out : List ℕ) (o k : ℕ) → ((x : ℕ) → length (block b x) ≡ k) → {before next : List ℕ}
+    → before ≡ over out 0 (each o (block b)) → next ≡ over before (o * k) (block b o)
+    → next ≡ over out 0 (each (o + 1) (block b))
+blocks-turn b out o k long {before} laid e =
+    e ∙ ap (λ (i : ℕ). over before i (block b o)) (sym (zero-add (o * k)))
+    ∙ rw laid (each-turn out 0 o k (block b) (λ x l. long x))
 
-piece-own : (b : List ℕ) (s : ℕ) → piece b s ≡ piece-by (silent-step b (observer b)) (states b) s
+piece-own : (b : List ℕ) (o s : ℕ) → piece b o s ≡ piece-by (silent-step b (observer b o)) (states b) s
 unfolding piece piece-by reach-for visits-for distances-for
-piece-own b s = refl
+piece-own b o s = refl
 
-module _ (b : List ℕ) (a : Accepted b) (silent : ℕ) (of : Concerned b (observer b) 3 silent) (rows : List ℕ)
+module _ (b : List ℕ) (a : Accepted b) (o silent : ℕ) (of : Concerned b (observer b o) 3 silent) (rows : List ℕ)
     (told : Rows (states b) rows (step-by b (bit silent))) where
-  same-piece : (s : ℕ) → s < states b → piece-by (in-rows rows) 64 s ≡ piece b s
+  same-piece : (s : ℕ) → s < states b → piece-by (in-rows rows) 64 s ≡ piece b o s
   unfolding piece-by in-rows reach-for
   same-piece s h =
-      let step = silent-step b (observer b) in
+      let step = silent-step b (observer b o) in
       let few = frame b a .few .most-states in
-      let stays = silent-within b (observer b) (rows-within b a) in
+      let stays = silent-within b (observer b o) (rows-within b a) in
       let same : (u t : ℕ) → u < states b → in-rows rows u t ≡ step u t = λ u t l.
       told u l t ∙ silent-steps b _ silent of u t in
       let reached = reaches-wider (in-rows rows) step (states b) 64 few same stays s h in
       let set : mask 64 (reaches (in-rows rows) 64 s) ≡ mask (states b) (reaches step (states b) s) =
       mask-same 64 _ _ (λ t l. reached t)
-      ∙ mask-wider (states b) 64 _ few (λ t l. reach-within b (observer b) (rows-within b a) s t h l) in
+      ∙ mask-wider (states b) 64 _ few (λ t l. reach-within b (observer b o) (rows-within b a) s t h l) in
       rw (
         set,
         visits-wider (in-rows rows) step (states b) 64 few same stays s h,
         distances-wider (in-rows rows) step (states b) 64 few same stays s h,
-      ) (sym (piece-own b s))
+      ) (sym (piece-own b o s))
 
-  pub same-pieces : each (states b) (piece-by (in-rows rows) 64) ≡ pieces b
+  pub same-block : each (states b) (piece-by (in-rows rows) 64) ≡ block b o
+  unfolding block
+  same-block = each-same (states b) _ _ same-piece
+
+module _ (b : List ℕ) (a : Accepted b) where
+  pub length-block : (o : ℕ) → length (block b o) ≡ states b * 136
+  unfolding block
+  length-block o =
+      length-each (states b) 136 (piece b o) (λ s h.
+      ap length (piece-own b o s) ∙ length-piece-by _ (states b) s (frame b a .few .most-states))
+
+  pub length-pieces : (k : ℕ) → ((o : ℕ) → length (block b o) ≡ k) → length (pieces b) ≡ observers b * k
   unfolding pieces
-  same-pieces = each-same (states b) _ _ same-piece
+  length-pieces k long = length-each (observers b) k (block b) (λ o h. long o)
 
-pub length-pieces : (b : List ℕ) → Accepted b → length (pieces b) ≡ states b * 136
-unfolding pieces
-length-pieces b a =
-    length-each (states b) 136 (piece b) (λ s h.
-    ap length (piece-own b s) ∙ length-piece-by _ (states b) s (frame b a .few .most-states))
+  -- There are few observers.
+  pub few-observers : observers b ≤ 255
+  few-observers = omega (arith, formed (kind b) (lead b) .own, frame b a .few .most-columns)

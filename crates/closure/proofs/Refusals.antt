@@ -6,7 +6,7 @@ use mathlib.Core.Option.{none, some}
 use borrow.Author.Tests.{lt-ltb, le-ltb}
 use lib.ListN.{length}
 use Rattle.bounded.specs.Search.{or-else, when}
-use Rattle.part.specs.Rejections.{rejection}
+use Rattle.screening.specs.Rejections.{rejection}
 use Rattle.closure.specs.Closures.{pieces, refusal}
 
 module _ (b : List ℕ) (room : ℕ) where

@@ -1,7 +1,7 @@
 -- What the answers of the code mean: no refusal, or one by its number.
 use Prim.Native.Nat.{ℕ}
 use mathlib.Core.Option.{Option, none, some}
-use Rattle.part.specs.Answers.{number-of}
+use Rattle.screening.specs.Answers.{number-of}
 use Rattle.closure.specs.declared.answer.Listing.{Listing}
 use Rattle.closure.specs.declared.answer.Listing.the-variants.{Written, Refused, NoRoom}
 

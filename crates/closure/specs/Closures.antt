@@ -9,21 +9,24 @@ use Rattle.words.specs.Arrays.{padded}
 use Rattle.words.specs.Laid.{over}
 use Rattle.words.specs.LittleEndian.{digits}
 use Rattle.words.specs.Sets.{mask}
-use Rattle.part.specs.Record.{states}
-use Rattle.part.specs.Rejections.{rejection}
+use Rattle.part.specs.Record.{observers, states}
+use Rattle.screening.specs.Rejections.{rejection}
 use Rattle.relations.specs.Relations.{reach, visits, distances}
 
 -- A set, visits and distances as bytes: the set in 8, then each of the lists and zeros behind it in 64.
 unfoldable pub piece-bytes : ℕ → List ℕ → List ℕ → List ℕ
 piece-bytes set visits distances = digits 8 set ++ padded 64 visits ++ padded 64 distances
 
--- The piece of s: its silent closure as a set, its visits, and their distances.
-unfoldable pub piece : List ℕ → ℕ → List ℕ
-piece b s = piece-bytes (mask (states b) (reach b s)) (visits b s) (distances b s)
+-- The piece of s for observer o: its silent closure as a set, its visits, and their distances.
+unfoldable pub piece : List ℕ → ℕ → ℕ → List ℕ
+piece b o s = piece-bytes (mask (states b) (reach b o s)) (visits b o s) (distances b o s)
 
--- The pieces of all states, in their order.
+-- A block has the pieces of all states, in their order; each observer has one.
+unfoldable pub block : List ℕ → ℕ → List ℕ
+block b o = each (states b) (piece b o)
+
 unfoldable pub pieces : List ℕ → List ℕ
-pieces b = each (states b) (piece b)
+pieces b = each (observers b) (block b)
 
 -- The first refusal, for a buffer of so many bytes: the record's, else 15 where the pieces do not fit.
 unfoldable pub refusal : List ℕ → ℕ → Option ℕ

@@ -1,5 +1,5 @@
 // The answer of the call. specs/Answers.antt gives each its number.
-use part::Rejection;
+use screening::Rejection;
 
 pub enum Listing {
     Written,

@@ -4,13 +4,13 @@ ghost use lib.ListN.{length};
 ghost use Rattle.closure.specs.Closures.{pieces, refusal, buffer-after};
 ghost use Rattle.closure.specs.Answers.{refusal-of};
 use crate::answer::Listing;
-use crate::writer::PIECE;
+use crate::writer::block_size;
 use crate::writer::put_pieces;
 use part::Part;
-use part::Screening;
-use part::screen;
+use screening::Screening;
+use screening::screen;
 
-// For each state of the record its silent closure as a set, its visits and their distances, at the start of out, whose later bytes stay; or why not, and then
+// For each observer and each state of the record its silent closure as a set, its visits and their distances, at the start of out, whose later bytes stay; or why not, and then
 // out stays as it was.
 pub fn list_closures(bytes: &[u8], out: &mut [u8]) -> Listing
     ensures { λ r. ⌜ refusal-of r ≡ refusal (now (bytes .entry)) (length (now (out .entry))) ⌝ }
@@ -21,7 +21,7 @@ pub fn list_closures(bytes: &[u8], out: &mut [u8]) -> Listing
         Screening::Rejected(r) => return Listing::Refused(r),
         Screening::Accepted => {}
     }
-    if out.len() < Part::states(bytes) * PIECE {
+    if out.len() < Part::observers(bytes) * block_size(bytes) {
         return Listing::NoRoom;
     }
     put_pieces(out, bytes);

@@ -9,10 +9,10 @@ use mathlib.Core.List.{List}
 use mathlib.Core.Option.{Option, none, some}
 use native.Mathlib.Decide.{decLt}
 use native.Mathlib.Omega.{arith}
-use lib.Dec.{ltb}
+use lib.Dec.{eqb, ltb}
 use lib.ListN.{length}
 use borrow.Author.Tests.{eqb-true, eq-eqb, ltb-false, le-ltb, not-false}
-use Rattle.bounded.specs.Search.{or-else, when}
+use Rattle.bounded.specs.Search.{any, or-else, when}
 use Rattle.bounded.proofs.Search.{
   when-none,
   when-some,
@@ -21,23 +21,27 @@ use Rattle.bounded.proofs.Search.{
   or-left,
   or-right,
   or-then,
+  any-none,
+  any-fails,
   first-none,
   first-nothing,
   first-found,
   first-at,
 }
 use Rattle.part.specs.Format.{max-states, max-events}
-use Rattle.part.specs.Record.{observer, states, events, identifier}
-use Rattle.part.specs.Rejections.{Accepted}
+use Rattle.part.specs.Record.{observers, observer, states, events, identifier}
+use Rattle.screening.specs.Rejections.{Accepted}
 use Rattle.part.specs.Events.{place, event-of}
-use Rattle.part.proofs.Ranges.{ranges}
-use Rattle.part.proofs.Places.{places, event-placed}
+use Rattle.screening.proofs.Ranges.{ranges}
+use Rattle.screening.proofs.Places.{places}
+use Rattle.part.proofs.Places.{event-placed}
 use Rattle.composite.specs.Meeting.{clashes}
 use Rattle.composite.specs.Joined.{merged}
 use Rattle.composite.specs.Joining.{
   Obstacle,
   refusal,
   clash,
+  levels-differ,
   observers-differ,
   clash-at,
   first-clash,
@@ -55,10 +59,21 @@ or-else-none (some o) y = (λ e. absurd (let z : _≡_ {A = ℕ} 0 1 = cc in ome
 -- ---- 9 and 10
 
 module _ (a b : List ℕ) where
-  observers-equal : (observers-differ a b ≡ false) ↔ (observer a ≡ observer b)
-  unfolding observers-differ
-  observers-equal =
-      (λ e. eqb-true (observer a) (observer b) (not-false _ e), λ q. ap not (eq-eqb (observer a) (observer b) q))
+  abbrev SameObservers : Type 0
+  SameObservers = (observers a ≡ observers b) × ((o : ℕ) → o < observers a → observer a o ≡ observer b o)
+
+  observers-equal : (observers-differ a b ≡ false) ↔ SameObservers
+  unfolding observers-differ levels-differ
+  observers-equal = (
+    λ e. (
+      eqb-true (observers a) (observers b) (not-false _ (or-left _ (any (observers a) (levels-differ a b)) e)),
+      λ o l. eqb-true (observer a o) (observer b o)
+          (not-false _ (any-none (levels-differ a b) _ (or-right (not (eqb (observers a) (observers b))) _ e) o l)),
+    ),
+    λ q.
+        or-then _ _ (ap not (eq-eqb (observers a) (observers b) (q .0)))
+        ∙ any-fails _ _ (λ o l. ap not (eq-eqb (observer a o) (observer b o) (q .1 o l))),
+  )
 
   clear-fits : (e : ℕ) → (clashes (event-of a e) (event-of b e) ≡ false) ↔ FitsAt a b e
   clear-fits e = (λ c i j k l p q. clear-opposite i j k l (cc), opposite-clear (event-of a e) (event-of b e))
@@ -94,14 +109,15 @@ pub joinable-exactly : JoinableExactly
 unfolding first-clash
 joinable-exactly a b p q = (
   λ w. record {
-    observers = observers-equal a b .0 (w .0);
+    as-many = observers-equal a b .0 (w .0) .0;
+    levels = observers-equal a b .0 (w .0) .1;
     fits = λ e. fits-placed a b e (λ n h.
         let s = places a p .stands e n h in
         subst (λ (d : ℕ). FitsAt a b d) (s .1)
         (no-clash a b n .0 (first-none (clash-at a b) (events a) (w .1) n (s .0))));
   },
   λ j. (
-    observers-equal a b .1 (j .observers),
+    observers-equal a b .1 (j .as-many, j .levels),
     first-nothing (clash-at a b) (events a)
         (λ n l. no-clash a b n .1 (j .fits (identifier a n))),
   ),

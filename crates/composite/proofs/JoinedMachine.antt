@@ -18,16 +18,18 @@ use Rattle.words.specs.Pairs.{pair}
 use Rattle.words.proofs.Sets.{bit-single}
 use Rattle.words.proofs.Pairs.{pair-lt, pair-first, pair-second, pair-of, first-lt, second-lt, bit-product-pair}
 use Rattle.level.specs.Level.{low}
-use Rattle.part.specs.Record.{observer, states, start, events, column, class, identifier, event-kind, level, row}
-use Rattle.part.specs.Rejections.{Accepted}
+use Rattle.part.specs.Record.{kind, lead, form-of, observers, observer, states, start, events, column, class, identifier, event-kind, level, row}
+use Rattle.screening.specs.Rejections.{Accepted}
 use Rattle.part.specs.Frame.{fields-of}
-use Rattle.part.specs.Machine.{State, machine, observation}
+use Rattle.screening.specs.Machine.{State, machine, observation}
 use Rattle.part.specs.Events.{place, event-of, Leads}
-use Rattle.part.proofs.Ranges.{ranges, class-counted}
-use Rattle.part.proofs.Places.{places, event-none, event-at}
-use Rattle.part.proofs.LayoutLaws.{Agree}
-use Rattle.part.proofs.ReadBack.{read-back}
-use Rattle.part.proofs.Proper.{proper-fits}
+use Rattle.screening.proofs.Ranges.{ranges, class-counted}
+use Rattle.screening.proofs.Places.{places}
+use Rattle.part.proofs.Places.{event-none, event-at}
+use Rattle.part.proofs.Fields.{formed}
+use Rattle.screening.proofs.LayoutLaws.{Agree, level-in, level-read, level-agree}
+use Rattle.screening.proofs.ReadBack.{read-back}
+use Rattle.screening.proofs.Proper.{proper-fits}
 use Rattle.bounded.proofs.Truth.{eqb-iff, and-iff}
 use Rattle.composite.specs.Meeting.{kind-byte, level-byte}
 use Rattle.composite.specs.Joined.{merged, classes, after, joined-event, joined-row, joined-fields, joined}
@@ -87,9 +89,19 @@ module _ (a b : List ℕ) (h : Bytes a) (k : Bytes b) (p : Accepted a) (q : Acce
   unfolding joined-fields
   joined-states = joined-back .tables .counts
 
-  joined-observer : observer (joined a b) ≡ observer a
+  joined-form : form-of (joined a b) ≡ form-of a
   unfolding joined-fields
-  joined-observer = joined-back .observers
+  joined-form = let k = joined-back .kinds in let l = joined-back .leads in cc
+
+  pub joined-observers : observers (joined a b) ≡ observers a
+  joined-observers = let f = joined-form in cc
+
+  pub joined-observer : (o : ℕ) → o < observers a → observer (joined a b) o ≡ observer a o
+  unfolding joined-fields level-in
+  joined-observer o l =
+      level-read (joined a b) o (rw joined-observers l)
+      ∙ level-agree (fields-of (joined a b)) (joined-fields a b) joined-back o l
+      ∙ sym (level-read a o l)
 
   joined-start : start (joined a b) ≡ pair (states b) (start a) (start b)
   unfolding joined-fields
@@ -99,11 +111,13 @@ module _ (a b : List ℕ) (h : Bytes a) (k : Bytes b) (p : Accepted a) (q : Acce
   unfolding joined-fields
   joined-events = joined-back .tables .event-counts
 
-  pub joined-class : (x y : ℕ) → x < states a → y < states b
-      → class (joined a b) (pair (states b) x y) ≡ pair (classes b) (class a x) (class b y)
+  pub joined-class : (o x y : ℕ) → o < observers a → x < states a → y < states b
+      → class (joined a b) o (pair (states b) x y) ≡ pair (classes b o) (class a o x) (class b o y)
   unfolding joined-fields
-  joined-class x y l m =
-      joined-back .classes (pair (states b) x y) (pair-lt (states a) (states b) x y l m) ∙ joined-class-pair a b x y m
+  joined-class o x y h l m =
+      joined-back .classes o (pair (states b) x y) (omega (arith, formed (kind a) (lead a) .own))
+      (pair-lt (states a) (states b) x y l m)
+      ∙ joined-class-pair a b o x y m
 
   -- ---- its events
 
@@ -214,17 +228,19 @@ module _ (a b : List ℕ) (h : Bytes a) (k : Bytes b) (p : Accepted a) (q : Acce
             (same-state a (w .0), same-state b (w .1));
       }
 
-  partition : IsProduct (observation a) (observation b) (observation (joined a b)) pairs
+  partition : (o : ℕ) → o < observers (joined a b)
+      → IsProduct (observation a o) (observation b o) (observation (joined a b) o) pairs
   unfolding classes
-  partition = record {
-    left-low = ap low (sym joined-observer);
-    right-low = ap low (sym (j .joinable .observers) ∙ sym joined-observer);
+  partition o listed = let l : o < observers a = rw joined-observers at listed in record {
+    left-low = ap low (sym (joined-observer o l));
+    right-low = ap low (sym (j .joinable .levels o l) ∙ sym (joined-observer o l));
     classes = λ s s' t t'.
-        let here = joined-class (s .0) (t .0) (s .1) (t .1) in
-        let there = joined-class (s' .0) (t' .0) (s' .1) (t' .1) in (
+        let here = joined-class o (s .0) (t .0) l (s .1) (t .1) in
+        let there = joined-class o (s' .0) (t' .0) l (s' .1) (t' .1) in (
           λ e.
-              pair-same (classes b) (class a (s .0)) (class a (s' .0)) (class b (t .0)) (class b (t' .0))
-              (class-counted (column b) (t .0) (states b) (t .1)) (class-counted (column b) (t' .0) (states b) (t' .1))
+              pair-same (classes b o) (class a o (s .0)) (class a o (s' .0)) (class b o (t .0)) (class b o (t' .0))
+              (class-counted (column b o) (t .0) (states b) (t .1))
+              (class-counted (column b o) (t' .0) (states b) (t' .1))
               (sym here ∙ e ∙ there),
           λ w. here ∙ rw (w .0, w .1) (sym there),
         );

@@ -1,6 +1,6 @@
 -- What the code finds of the obstacles, step by step.
 use Prim.Native.Nat.{ℕ, _*_, _≤_, _<_}
-use mathlib.Core.Path.{_≡_, refl, sym, _∙_}
+use mathlib.Core.Path.{_≡_, refl, sym, ap, _∙_}
 use mathlib.Core.Logic.{⊎-elim}
 use mathlib.Core.Bool.{Bool, true, false, not, _&&_}
 use mathlib.Core.List.{List, [], _∷_}
@@ -10,21 +10,23 @@ use native.Mathlib.Omega.{arith}
 use borrow.Author.Tests.{eqb-true, eq-eqb, ne-eqb, lt-ltb, le-ltb}
 use lib.Dec.{eqb, ltb}
 use lib.ListN.{length, getD}
-use Rattle.bounded.specs.Search.{all, or-else, when}
-use Rattle.bounded.proofs.Search.{all-at, true-or-false}
+use Rattle.bounded.specs.Search.{any, all, or-else, when}
+use Rattle.bounded.proofs.Search.{all-at, true-or-false, or-then}
 use Rattle.machine.specs.Machine.{Kind, Event, absent, event}
 use Rattle.part.specs.Format.{max-states, max-events, max-event-kind}
-use Rattle.part.specs.Record.{observer, states, events, identifier, event-kind, level}
-use Rattle.part.specs.Rejections.{Accepted}
+use Rattle.part.specs.Record.{observers, observer, states, events, identifier, event-kind, level}
+use Rattle.screening.specs.Rejections.{Accepted}
 use Rattle.part.specs.Frame.{place-or-end}
 use Rattle.part.specs.Events.{kind-of, place, event-of}
-use Rattle.part.proofs.Places.{places, event-none, event-at, end-placed, end-absent}
+use Rattle.screening.proofs.Places.{places}
+use Rattle.part.proofs.Places.{event-none, event-at, end-placed, end-absent}
 use Rattle.composite.specs.Meeting.{meets, clashes}
 use Rattle.composite.specs.Joined.{merged}
 use Rattle.composite.specs.Joining.{
   Obstacle,
   refusal,
   clash,
+  levels-differ,
   observers-differ,
   clash-at,
   first-clash,
@@ -114,13 +116,24 @@ module _ (a b : List ℕ) where
     unfolding clash-at when
     no-clash-here f = rw (← e, f)
 
-  pub unequal : {x y : ℕ} → x ≡ observer a → y ≡ observer b → (x ≡ y → ⊥) → observers-differ a b ≡ true
+  -- the lists are not as long, or they are, and some level differs or none does
+  pub uneven : {x y : ℕ} → x ≡ observers a → y ≡ observers b → (x ≡ y → ⊥) → observers-differ a b ≡ true
   unfolding observers-differ
-  unequal {x} {y} p q n = rw (← p, ← q, ne-eqb x y n)
+  uneven {x} {y} p q n = rw (← p, ← q, ne-eqb x y n) refl
 
-  pub equal : {x y : ℕ} → x ≡ observer a → y ≡ observer b → x ≡ y → observers-differ a b ≡ false
+  pub as-long : {x y : ℕ} → x ≡ observers a → y ≡ observers b → x ≡ y
+      → any (observers a) (levels-differ a b) ≡ observers-differ a b
   unfolding observers-differ
-  equal {x} {y} p q e = rw (← p, ← q, eq-eqb x y e)
+  as-long {x} {y} p q e = sym (or-then _ _ (ap not (eq-eqb (observers a) (observers b) (cc))))
+
+  -- at observer o
+  pub differs-at : (o : ℕ) {x y : ℕ} → x ≡ observer a o → y ≡ observer b o → (x ≡ y → ⊥) → levels-differ a b o ≡ true
+  unfolding levels-differ
+  differs-at o {x} {y} p q n = rw (← p, ← q, ne-eqb x y n) refl
+
+  pub agrees-at : (o : ℕ) {x y : ℕ} → x ≡ observer a o → y ≡ observer b o → x ≡ y → levels-differ a b o ≡ false
+  unfolding levels-differ
+  agrees-at o {x} {y} p q e = rw (← p, ← q, eq-eqb x y e) refl
 
   pub different : observers-differ a b ≡ true → obstacle a b ≡ some (refusal 9)
   unfolding obstacle when or-else

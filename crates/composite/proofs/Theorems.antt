@@ -1,5 +1,6 @@
 -- The hookup theorem over bytes.
 use Rattle.machine.proofs.Hookup.{hookup-restrictive}
+use Rattle.screening.proofs.Ranges.{ranges}
 use Rattle.restrictive.proofs.Theorems.{passes-exactly}
 use Rattle.composite.specs.Joined.{joined}
 use Rattle.composite.specs.Theorems.{JoinedPasses}
@@ -14,4 +15,5 @@ joined-passes a b h k u v none-there =
     let j = joins-exactly a b p q .0 none-there in
     let r = joined-accepted a b h k p q j in
     let (pairs, numbered, hookup, partition) = joined-hookup a b h k p q j r in
-    passes-exactly (joined a b) .1 (r, hookup-restrictive _ _ _ _ _ _ _ _ _ pairs hookup partition R S)
+    passes-exactly (joined a b) .1
+    (r, hookup-restrictive _ _ _ _ _ _ _ _ _ pairs hookup (partition 0 (ranges (joined a b) r .some-observer)) R S)

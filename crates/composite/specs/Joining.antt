@@ -5,10 +5,10 @@ use mathlib.Core.List.{List}
 use mathlib.Core.Option.{Option, none, some}
 use lib.Dec.{ltb, eqb}
 use lib.ListN.{length}
-use Rattle.bounded.specs.Search.{first, or-else, when}
+use Rattle.bounded.specs.Search.{any, first, or-else, when}
 use Rattle.words.specs.Laid.{over}
 use Rattle.part.specs.Format.{max-states, max-events}
-use Rattle.part.specs.Record.{observer, states, events, identifier}
+use Rattle.part.specs.Record.{observers, observer, states, events, identifier}
 use Rattle.part.specs.Events.{event-of}
 use Rattle.restrictive.specs.Verdict.{Verdict, pass, refused, breaks, verdict}
 use Rattle.composite.specs.Meeting.{clashes}
@@ -19,9 +19,13 @@ pub data Obstacle : Type 0 where
   refusal : ℕ → Obstacle
   clash : ℕ → Obstacle
 
--- 9: the observers differ.
+-- The levels of observer o differ.
+unfoldable pub levels-differ : List ℕ → List ℕ → ℕ → Bool
+levels-differ a b o = not (eqb (observer a o) (observer b o))
+
+-- 9: the lists of observers differ.
 unfoldable pub observers-differ : List ℕ → List ℕ → Bool
-observers-differ a b = not (eqb (observer a) (observer b))
+observers-differ a b = not (eqb (observers a) (observers b)) || any (observers a) (levels-differ a b)
 
 -- 10: a shared event clashes; the smallest such identifier. A's identifiers are tried in their rising order.
 unfoldable pub clash-at : List ℕ → List ℕ → ℕ → Option Obstacle

@@ -3,13 +3,13 @@ ghost use mathlib.Core.Path.{_≡_};
 ghost use Prim.Native.Nat.{_<_, _≤_};
 ghost use Rattle.part.specs.Format.{max-event-kind};
 ghost use Rattle.part.specs.Record.{events, identifier};
-ghost use Rattle.part.specs.Rejections.{Accepted};
+ghost use Rattle.screening.specs.Rejections.{Accepted};
 ghost use Rattle.part.specs.Frame.{place-or-end};
 ghost use Rattle.part.specs.Events.{kind-of, event-of};
 ghost use lib.ListN.{length};
 ghost use Rattle.composite.specs.Joined.{merged};
 ghost use Rattle.composite.specs.Meeting.{clashes};
-ghost use Rattle.composite.specs.Joining.{first-clash, too-large, obstacle};
+ghost use Rattle.composite.specs.Joining.{observers-differ, first-clash, too-large, obstacle};
 ghost use Rattle.composite.specs.Walk.{fit-of};
 ghost use Rattle.composite.specs.Walk.{meeting};
 use crate::answer::Fit;
@@ -86,6 +86,26 @@ fn too_large(a: &[u8], b: &[u8], count: usize) -> bool
     Part::EVENTS < count
 }
 
+// The lists of observers differ.
+fn observers_differ(a: &[u8], b: &[u8]) -> bool
+    requires { ⌜ Accepted (now a) ⌝ }
+    requires { ⌜ Accepted (now b) ⌝ }
+    ensures { λ r. ⌜ r ≡ observers-differ (now (a .entry)) (now (b .entry)) ⌝ }
+{
+    let count = Part::observers(a);
+    if count != Part::observers(b) {
+        return true;
+    }
+    let mut o = 0;
+    while o < count {
+        if Part::observer(a, o) != Part::observer(b, o) {
+            return true;
+        }
+        o += 1;
+    }
+    false
+}
+
 // count is the number of their merged entries.
 pub fn obstacle(a: &[u8], b: &[u8], count: usize) -> Fit
     requires { ⌜ Accepted (now a) ⌝ }
@@ -93,7 +113,7 @@ pub fn obstacle(a: &[u8], b: &[u8], count: usize) -> Fit
     requires { ⌜ count ≡ length (merged (now a) (now b)) ⌝ }
     ensures { λ r. ⌜ fit-of r ≡ obstacle (now (a .entry)) (now (b .entry)) ⌝ }
 {
-    if Part::observer(a) != Part::observer(b) {
+    if observers_differ(a, b) {
         return Fit::Stopped(Obstacle::ObserversDiffer);
     }
     let clash = first_clash(a, b);

@@ -29,11 +29,11 @@ told b out xs e f a w =
     (a ∙ rw (size, e) refl, w ∙ rw (size, f) refl)
 
 -- The numbers of a break and of a pass; a refusal has none.
-of-verdict : (b : List ℕ) {v : Verdict} → verdict b ≡ v → explanation b ≡ as-bytes (numbers v (taken b) (observer b))
+of-verdict : (b : List ℕ) {v : Verdict} → verdict b ≡ v → explanation b ≡ as-bytes (numbers v (taken b) (observer b 0))
 unfolding explanation
 of-verdict b e = rw e
 
-pub of-break : (b : List ℕ) {v : Violation} {k l : ℕ} → verdict b ≡ breaks v → k ≡ taken b → l ≡ observer b
+pub of-break : (b : List ℕ) {v : Violation} {k l : ℕ} → verdict b ≡ breaks v → k ≡ taken b → l ≡ observer b 0
     → explanation b ≡ bytes (v .rule ∷ v .event ∷ v .s ∷ v .t ∷ v .u ∷ k ∷ l ∷ 0 ∷ [])
 unfolding numbers as-bytes each
 of-break b e p q = of-verdict b e ∙ rw (← p, ← q) refl

@@ -23,7 +23,7 @@ as-bytes xs = each (length xs) (λ i. digits 8 (getD xs i 0))
 
 -- What the call writes.
 unfoldable pub explanation : List ℕ → List ℕ
-explanation b = as-bytes (numbers (verdict b) (taken b) (observer b))
+explanation b = as-bytes (numbers (verdict b) (taken b) (observer b 0))
 
 -- It does not fit into a buffer of so many bytes.
 unfoldable pub no-room : List ℕ → ℕ → Bool

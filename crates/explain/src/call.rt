@@ -40,7 +40,7 @@ pub fn explain(bytes: &[u8], out: &mut [u8]) -> Explaining
     match verdict {
         Verdict::Refused(_) => Explaining::Told(verdict),
         Verdict::Break(w) => {
-            let level = Part::observer(bytes) as u64;
+            let level = Part::observer(bytes, 0) as u64;
             let numbers = [
                 w.rule as u64,
                 w.event as u64,

@@ -7,7 +7,7 @@ use native.Mathlib.Decide.{decLt}
 use native.Mathlib.Omega.{arith}
 use borrow.Author.Tests.{lt-ltb, le-ltb}
 use lib.ListN.{length}
-use Rattle.part.specs.Rejections.{Accepted}
+use Rattle.screening.specs.Rejections.{Accepted}
 use Rattle.restrictive.specs.Verdict.{Violation, Verdict, pass, refused, breaks, verdict}
 use Rattle.restrictive.proofs.Theorems.{passes-exactly}
 use Rattle.composite.specs.Joined.{joined}

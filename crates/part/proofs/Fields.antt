@@ -1,19 +1,68 @@
 -- Where the fields of a framed record stand: inside it, and not far.
 use Prim.Native.Nat.{ℕ, _+_, _*_, _≤_, _<_, max}
-use mathlib.Core.Path.{_≡_}
+use mathlib.Core.Path.{_≡_, refl, sym, subst}
+use mathlib.Core.Bool.{Bool, true, false, cond}
 use native.Mathlib.Numerals.{add-one}
 use native.Mathlib.Omega.{arith}
 use mathlib.Core.List.{List}
-use native.Mathlib.Nat.{mul-le-mul}
+use native.Mathlib.Nat.{mul-le-mul, mul-le-mul-right}
 use lib.Arith.{digits-lt}
+use lib.Dec.{eqb}
 use lib.ListN.{length, length-take, length-drop}
 use lib.Seq.{getD-take, getD-drop}
 use Rattle.words.specs.LittleEndian.{byte}
+use Rattle.part.specs.declared.format.Form.{Form}
 use Rattle.part.specs.declared.format.Counts.{Counts}
-use Rattle.part.specs.Format.{columns-at, record-size, max-record}
-use Rattle.part.specs.Frame.{Few}
-use Rattle.part.specs.Record.{states, events, counts, column, class, classes-below, row-at}
-use Rattle.part.specs.Frame.{Framed}
+use Rattle.part.specs.Format.{part-kind, several-kind, lists-at, one-observer, several-observers, form, columns-at, column-at}
+use Rattle.part.specs.Format.{record-size, max-states, max-record}
+use Rattle.part.specs.Frame.{Few, Narrow, Framed}
+use Rattle.part.specs.Record.{kind, lead, states, events, counts, form-of, observers, column, class, classes-below}
+use Rattle.part.specs.Record.{row-at}
+
+-- ---- the forms
+
+-- The levels of the observers stand before the columns, and each observer has one.
+pub record Formed (f : Form) : Type 0 where
+  pub before : f .levels + f .observers ≤ lists-at + f .listed
+  pub own : f .observers ≡ f .columns
+
+pub formed : (kind lead : ℕ) → Formed (form kind lead)
+unfolding form
+formed kind lead = go (eqb kind several-kind)
+  where
+    go : (t : Bool) → Formed (cond t (several-observers lead) one-observer)
+    go true = record { before = omega arith; own = refl }
+    go false = record { before = omega arith; own = refl }
+
+-- Kind 1 has one observer, and lists none.
+pub form-one : (kind lead : ℕ) → kind ≡ part-kind → form kind lead ≡ one-observer
+unfolding form
+form-one kind lead e = rw e refl
+
+-- What is asked of the form of a record that is accepted.
+pub record Fit (f : Form) : Type 0 where
+  pub some-observer : 1 ≤ f .observers
+  pub most-listed : f .listed ≤ 255
+  pub most-columns : f .columns ≤ 255
+  pub narrow : Narrow f
+
+pub form-fit : (kind lead : ℕ) → kind ≡ part-kind → Fit (form kind lead)
+form-fit kind lead e =
+    subst Fit (sym (form-one kind lead e)) (record {
+      some-observer = omega arith;
+      most-listed = omega arith;
+      most-columns = omega arith;
+      narrow = record { lists = omega arith; columns = omega arith };
+    })
+
+-- A first byte lists at most 255.
+pub form-small : (kind lead : ℕ) → lead < 256 → (form kind lead .listed ≤ 255) × (form kind lead .columns ≤ 255)
+unfolding form
+form-small kind lead h = go (eqb kind several-kind)
+  where
+    go : (t : Bool) → let f = cond t (several-observers lead) one-observer in (f .listed ≤ 255) × (f .columns ≤ 255)
+    go true = (omega arith, omega arith)
+    go false = (omega arith, omega arith)
 
 -- ---- within the limits
 
@@ -22,13 +71,21 @@ module _ (c : Counts) (few : Few c) where
   pub few-rows : c .events * c .states ≤ 2048
   few-rows = mul-le-mul (few .most-events) (few .most-states)
 
-  pub size-most : record-size c ≤ max-record
-  size-most = omega (arith, few-rows)
+  pub few-classes : c .form .columns * c .states ≤ 16320
+  few-classes = mul-le-mul (few .most-columns) (few .most-states)
+
+  -- the classes of the columns before o, and those of o
+  pub classes-before : (o : ℕ) → o < c .form .columns
+      → (o * c .states + c .states ≤ c .form .columns * c .states) × (c .form .columns * c .states ≤ 16320)
+  classes-before o h = (omega (arith, mul-le-mul-right (c .states) h), few-classes)
+
+  pub size-most : Narrow (c .form) → record-size c ≤ max-record
+  size-most narrow = omega (arith, few-rows, mul-le-mul (narrow .columns) (few .most-states))
 
 -- ---- inside a framed record
 
 pub record-most : (b : List ℕ) → Framed b → length b ≤ max-record
-record-most b f = omega (arith, f .whole, size-most (counts b) (f .few))
+record-most b f = omega (arith, f .whole, size-most (counts b) (f .few) (f .narrow))
 
 -- The row of event i and state s is one of the m × n rows. From where the rows of event i begin it stands 8 bytes
 -- further for each state before, and it ends inside the record.
@@ -42,14 +99,22 @@ pub rows-inside : (b : List ℕ) (i : ℕ) → Framed b → i < events b
     → (i * states b < events b * states b) × (events b * states b ≤ 2048)
 rows-inside b i f h = (omega (arith, digits-lt {c = states b} h (f .one-state)), few-rows (counts b) (f .few))
 
--- The column has a byte for each state.
-pub column-size : (b : List ℕ) → Framed b → length (column b) ≡ states b
-unfolding column
-column-size b f = simp (length-take, length-drop) (omega (arith, f .whole))
+-- An observer's level stands before the columns, and it has a column.
+pub level-inside : (b : List ℕ) (o : ℕ) → Framed b → o < observers b
+    → (form-of b .levels + o < length b) × (o < form-of b .columns)
+level-inside b o f h =
+    let w = formed (kind b) (lead b) in
+    (omega (arith, f .whole, w .before), omega (arith, w .own))
 
-pub class-at : (b : List ℕ) (s : ℕ) → s < states b → class b s ≡ byte b (columns-at + s)
+-- A column has a byte for each state.
+pub column-size : (b : List ℕ) (o : ℕ) → Framed b → o < form-of b .columns → length (column b o) ≡ states b
 unfolding column
-class-at b s h = rw (getD-take, getD-drop)
+column-size b o f h =
+    simp (length-take, length-drop) (omega (arith, f .whole, classes-before (counts b) (f .few) o h))
+
+pub class-at : (b : List ℕ) (o s : ℕ) → s < states b → class b o s ≡ byte b (column-at (counts b) o + s)
+unfolding column
+class-at b o s h = rw (getD-take, getD-drop)
 
 -- ---- the count of classes, with one state more
 

@@ -1,11 +1,3 @@
 pub mod Fields
-pub mod Accepted
-pub mod Rejections
-pub mod Strays
 pub mod Rising
-pub mod Ranges
 pub mod Places
-pub mod LayoutLaws
-pub mod ReadBack
-pub mod Extensional
-pub mod Proper

@@ -1,5 +1,4 @@
--- The place of an event and its identifier determine each other, and what the machine has under an identifier stands at
--- its place.
+-- The search for an event's place, along identifiers that rise, and what stands under an identifier.
 use Prim.Native.Nat.{ℕ, _+_, _-_, _≤_, _<_}
 use mathlib.Core.Path.{_≡_, refl, sym, ap, _∙_, subst}
 use mathlib.Core.Logic.{_↔_}
@@ -17,8 +16,6 @@ use Rattle.part.specs.Record.{events, identifier, event-kind, level, row
 use Rattle.part.specs.Frame.{Rising}
 use Rattle.part.specs.Frame.{place-or-end}
 use Rattle.part.specs.Events.{kind-of, at-place, place, event-of, Leads}
-use Rattle.part.specs.Theorems.{Places}
-use Rattle.part.proofs.Ranges.{ranges}
 use Rattle.part.proofs.Rising.{rises-le}
 
 module _ (b : List ℕ) (e i : ℕ) where
@@ -40,7 +37,7 @@ module _ (b : List ℕ) (e i : ℕ) where
 
 module _ (b : List ℕ) (e : ℕ) where
   -- a place that is found is one of the record's, and e stands there
-  place-stands : (i : ℕ) → place b e ≡ some i → (i < events b) × (identifier b i ≡ e)
+  pub place-stands : (i : ℕ) → place b e ≡ some i → (i < events b) × (identifier b i ≡ e)
   unfolding place
   place-stands i p =
       let w = first-found _ _ i p in
@@ -94,7 +91,7 @@ module _ (b : List ℕ) (e : ℕ) where
 
   -- ---- where the identifiers rise: what one place tells
 
-  rising-place : Rising b → (i : ℕ) → i < events b → identifier b i ≡ e → place b e ≡ some i
+  pub rising-place : Rising b → (i : ℕ) → i < events b → identifier b i ≡ e → place b e ≡ some i
   unfolding place
   rising-place up i h q =
       first-at _ _ i
@@ -122,12 +119,6 @@ module _ (b : List ℕ) (e : ℕ) where
         | yes n ↦ omega (arith, below (omega arith), le j (i - 1) (omega arith) (omega arith))
         | no n ↦ omega (arith, above (omega arith), le i j (omega arith) l)
       ]))))
-
-pub places : Places
-places b a = record {
-  found = λ i h. rising-place b _ (ranges b a .identifiers-rise) i h refl;
-  stands = place-stands b;
-}
 
 module _ (b : List ℕ) (e : ℕ) where
   pub event-none : place b e ≡ none → event-of b e ≡ absent

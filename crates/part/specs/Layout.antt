@@ -1,11 +1,11 @@
--- The bytes of a part's record from its fields, in the order of document 01, "The part record".
+-- The bytes of a part's record from its fields, in the order of document 01, "The part record", and of document 02, k.
 use Prim.Native.Nat.{ℕ}
 use mathlib.Core.List.{List, [], _∷_, _++_}
 use Rattle.bounded.specs.Search.{each}
 use Rattle.words.specs.LittleEndian.{digits}
 use Rattle.part.specs.declared.format.Counts.{Counts}
-use Rattle.part.specs.Format.{part-kind, body-size}
-use Rattle.part.specs.Record.{Observer}
+use Rattle.part.specs.declared.format.Form.{Form}
+use Rattle.part.specs.Format.{form, body-size}
 
 -- The table of a part, which has no observer: states, start, each event's entry, and the row of each event and state.
 pub record Table : Type 0 where
@@ -17,14 +17,24 @@ pub record Table : Type 0 where
   pub level : ℕ → ℕ
   pub row : ℕ → ℕ → ℕ
 
--- The fields of a record: a table, and its observer.
+-- The fields of a record: its kind, the first byte of its body, the table, the levels that are listed, and the class columns.
 pub record Fields : Type 0 where
+  pub kind : ℕ
+  pub lead : ℕ
   pub table : Table
-  pub observer : Observer
+  pub listed : ℕ → ℕ
+  pub class : ℕ → ℕ → ℕ
 
--- The counts of a table.
-abbrev pub counts-of : Table → Counts
-counts-of t = record { states = t .states; events = t .events }
+-- The form and the counts of the fields.
+abbrev pub shape : Fields → Form
+shape f = form (f .kind) (f .lead)
+
+abbrev pub counts-of : Fields → Counts
+counts-of f = record { form = shape f; states = f .table .states; events = f .table .events }
+
+-- Class column o.
+abbrev pub column-of : Fields → ℕ → List ℕ
+column-of f o = each (f .table .states) (λ s. f .class o s ∷ [])
 
 -- The entry of the event at place i, and all its rows.
 abbrev pub entry-of : Table → ℕ → List ℕ
@@ -33,14 +43,15 @@ entry-of t i = digits 2 (t .identifier i) ++ t .event-kind i ∷ t .level i ∷ 
 abbrev pub rows-of : Table → ℕ → List ℕ
 rows-of t i = each (t .states) (λ s. digits 8 (t .row i s))
 
--- Four numbers, the class of each state, the entry of each event, the row of each event and state.
+-- Four numbers, the listed levels, the class columns, the entry of each event, the row of each event and state.
 unfoldable pub body : Fields → List ℕ
 body f =
-    f .observer .level ∷ f .table .states ∷ f .table .start ∷ f .table .events ∷ []
-    ++ each (f .table .states) (λ s. f .observer .class s ∷ [])
+    f .lead ∷ f .table .states ∷ f .table .start ∷ f .table .events ∷ []
+    ++ each (shape f .listed) (λ o. f .listed o ∷ [])
+    ++ each (shape f .columns) (column-of f)
     ++ each (f .table .events) (entry-of (f .table))
     ++ each (f .table .events) (rows-of (f .table))
 
--- Length, kind 1, body.
+-- Length, kind, body.
 unfoldable pub layout : Fields → List ℕ
-layout f = digits 4 (body-size (counts-of (f .table))) ++ digits 2 part-kind ++ body f
+layout f = digits 4 (body-size (counts-of f)) ++ digits 2 (f .kind) ++ body f

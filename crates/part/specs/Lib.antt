@@ -1,13 +1,7 @@
 pub mod Format
 pub mod Record
-pub mod Rejections
-pub mod Answers
 pub mod Events
-pub mod MachineFacts
-pub mod Machine
 pub mod Layout
 pub mod Frame
-pub mod Theorems
 pub mod Samples
-pub mod Computed
 pub mod Examples

@@ -5,7 +5,8 @@ use mathlib.Core.List.{List}
 use lib.ListN.{take, drop}
 use Rattle.words.specs.LittleEndian.{byte, number}
 use Rattle.part.specs.declared.format.Counts.{Counts}
-use Rattle.part.specs.Format.{columns-at, entries-at, rows-at}
+use Rattle.part.specs.declared.format.Form.{Form}
+use Rattle.part.specs.Format.{lists-at, form, column-at, entries-at, rows-at}
 
 -- The length L of the body, and the record's kind.
 unfoldable pub body-length : List ℕ → ℕ
@@ -14,9 +15,9 @@ body-length b = number 4 b 0
 unfoldable pub kind : List ℕ → ℕ
 kind b = number 2 b 4
 
--- The observer's level, the number n of states, the start state, the number m of events.
-unfoldable pub observer : List ℕ → ℕ
-observer b = byte b 6
+-- The first byte of the body, which the kind gives its meaning; the number n of states, the start state, the number m of events.
+unfoldable pub lead : List ℕ → ℕ
+lead b = byte b 6
 
 unfoldable pub states : List ℕ → ℕ
 states b = byte b 7
@@ -27,17 +28,30 @@ start b = byte b 8
 unfoldable pub events : List ℕ → ℕ
 events b = byte b 9
 
--- The counts on which its format depends.
+-- Its form, and the counts on which its format depends.
+abbrev pub form-of : List ℕ → Form
+form-of b = form (kind b) (lead b)
+
 abbrev pub counts : List ℕ → Counts
-counts b = record { states = states b; events = events b }
+counts b = record { form = form-of b; states = states b; events = events b }
 
--- The class column: the class of each state, a byte each.
-unfoldable pub column : List ℕ → List ℕ
-column b = take (states b) (drop columns-at b)
+-- How many observers the part has, the level of observer o, and the level that is listed at place o.
+abbrev pub observers : List ℕ → ℕ
+observers b = form-of b .observers
 
--- The class of state s.
-abbrev pub class : List ℕ → ℕ → ℕ
-class b s = byte (column b) s
+unfoldable pub observer : List ℕ → ℕ → ℕ
+observer b o = byte b (form-of b .levels + o)
+
+unfoldable pub listed-level : List ℕ → ℕ → ℕ
+listed-level b o = byte b (lists-at + o)
+
+-- Class column o: the class of each state, a byte each.
+unfoldable pub column : List ℕ → ℕ → List ℕ
+column b o = take (states b) (drop (column-at (counts b) o) b)
+
+-- The class of state s in column o.
+abbrev pub class : List ℕ → ℕ → ℕ → ℕ
+class b o s = byte (column b o) s
 
 -- An observer of a part: its level, and the class of each state for it (document 01: the proposed grouping).
 pub record Observer : Type 0 where
@@ -48,9 +62,9 @@ pub record Observer : Type 0 where
 abbrev pub observing : ℕ → List ℕ → Observer
 observing level column = record { level = level; class = byte column }
 
--- The record's own observer.
-abbrev pub observer-of : List ℕ → Observer
-observer-of b = observing (observer b) (column b)
+-- Observer o of the record, which has column o.
+abbrev pub observer-of : List ℕ → ℕ → Observer
+observer-of b o = observing (observer b o) (column b o)
 
 -- In a column, one above the largest class of the states below s; 0 where there are none.
 unfoldable pub classes-below : List ℕ → ℕ → ℕ

@@ -2,7 +2,8 @@
 use Prim.Native.Nat.{ℕ}
 use mathlib.Core.List.{List, [], _∷_, _++_}
 use Rattle.words.specs.LittleEndian.{digits}
-use Rattle.part.specs.Layout.{layout}
+use Rattle.part.specs.Format.{part-kind}
+use Rattle.part.specs.Layout.{Table, Fields, layout}
 
 -- P, 52 bytes: two states, input 1 is high and toggles, output 2 is low and stays.
 abbrev pub P : List ℕ
@@ -36,17 +37,31 @@ T kind level row-0 row-1 row-2 =
     ++ 0x01 ∷ 0x00 ∷ kind ∷ level ∷ []
     ++ digits 8 row-0 ++ digits 8 row-1 ++ digits 8 row-2
 
+-- A record of kind 2: two states, which input 1 of level 0x40 toggles, for observers of the levels 0 and 0x40. For the first both states
+-- have one class, for the second each has its own.
+abbrev pub two-observers : List ℕ
+two-observers =
+    0x1E ∷ 0 ∷ 0 ∷ 0 ∷ 0x02 ∷ 0 ∷ []
+    ++ 0x02 ∷ 0x02 ∷ 0x00 ∷ 0x01 ∷ []
+    ++ 0x00 ∷ 0x40 ∷ []
+    ++ 0x00 ∷ 0x00 ∷ []
+    ++ 0x00 ∷ 0x01 ∷ []
+    ++ 0x01 ∷ 0x00 ∷ 0x00 ∷ 0x40 ∷ []
+    ++ digits 8 2 ++ digits 8 1
+
+-- A record of kind 1: a table, and one observer with its level and the class of each state.
+abbrev pub observed : Table → ℕ → (ℕ → ℕ) → Fields
+observed table level class =
+    record { kind = part-kind; lead = level; table = table; listed = λ o. 0; class = λ o. class }
+
 -- n states, all of one class, and m inputs 0, 1, .. of level 0 that lead every state to state 0.
 abbrev pub resetting : ℕ → ℕ → List ℕ
-resetting n m = layout (record {
-  table = record {
-    states = n;
-    start = 0;
-    events = m;
-    identifier = λ i. i;
-    event-kind = λ i. 0;
-    level = λ i. 0;
-    row = λ i s. 1;
-  };
-  observer = record { level = 0; class = λ s. 0 };
-})
+resetting n m = layout (observed (record {
+  states = n;
+  start = 0;
+  events = m;
+  identifier = λ i. i;
+  event-kind = λ i. 0;
+  level = λ i. 0;
+  row = λ i s. 1;
+}) 0 (λ s. 0))

@@ -5,12 +5,13 @@ ghost use mathlib.Core.Bool.{true};
 ghost use lib.ListN.{length};
 ghost use Rattle.words.specs.LittleEndian.{byte};
 ghost use Rattle.words.specs.Arrays.{Filled, words-of};
-ghost use Rattle.part.specs.Format.{header, columns-at};
+ghost use Rattle.part.specs.Format.{header, lists-at};
 ghost use Rattle.part.specs.Frame.{Few};
-ghost use Rattle.part.specs.Record.{body-length, kind, observer, states, start, events, counts, column, entry-at, identifier, event-kind, level, row-at, row};
+ghost use Rattle.part.specs.Record.{body-length, kind, lead, form-of, observers, observer, states, start, events, counts, column, entry-at, identifier, event-kind, level, row-at, row};
 ghost use Rattle.part.specs.Frame.{class-count, Rising, Framed};
 ghost use Rattle.part.specs.Frame.{place-or-end};
 use crate::format::Counts;
+use crate::format::Form;
 use words::le;
 
 // One above the largest class so far, with the class c.
@@ -40,17 +41,20 @@ impl Part {
 
     pub const ROW: usize = 8;
 
-    // Where the class column begins.
-    pub const COLUMNS: usize = Part::HEADER + Part::NUMBERS;
+    // Where the list of observers begins, and the columns where none are listed.
+    pub const LISTS: usize = Part::HEADER + Part::NUMBERS;
 
     const ROWS: usize = Part::EVENTS * Part::STATES;
 
-    pub const RECORD: usize = Part::COLUMNS
+    pub const RECORD: usize = Part::LISTS
         + Part::STATES
         + Part::ENTRY * Part::EVENTS
         + Part::ROW * Part::ROWS;
 
+    // The kinds of record: with one observer, and with several.
     pub const KIND: usize = 1;
+
+    pub const SEVERAL: usize = 2;
 
     // A shared event becomes internal, the last of the three kinds of event.
     pub const INTERNAL: usize = 2;
@@ -71,15 +75,45 @@ impl Part {
         le::u16_at(b, 4)
     }
 
-    pub fn observer(b: &[u8]) -> u8
-        requires { ⌜ columns-at ≤ length (now b) ⌝ }
-        ensures { λ r. ⌜ r ≡ observer (now (b .entry)) ⌝ }
+    // The first byte of the body, which the kind gives its meaning.
+    pub fn lead(b: &[u8]) -> usize
+        requires { ⌜ lists-at ≤ length (now b) ⌝ }
+        ensures { λ r. ⌜ r ≡ lead (now (b .entry)) ⌝ }
+        ensures { λ r. ⌜ r < 256 ⌝ }
     {
-        b[6]
+        le::u8_at(b, 6)
+    }
+
+    pub fn form(b: &[u8]) -> Form
+        requires { ⌜ lists-at ≤ length (now b) ⌝ }
+        ensures { λ r. ⌜ r ≡ form-of (now (b .entry)) ⌝ }
+        ensures { λ r. ⌜ (r .listed ≤ 255) × (r .columns ≤ 255) ⌝ }
+    {
+        Form::of(Part::kind(b), Part::lead(b))
+    }
+
+    // How many observers the part has.
+    pub fn observers(b: &[u8]) -> usize
+        requires { ⌜ Framed (now b) ⌝ }
+        ensures { λ r. ⌜ r ≡ observers (now (b .entry)) ⌝ }
+    {
+        let form = Part::form(b);
+        form.observers
+    }
+
+    // The level of observer o.
+    pub fn observer(b: &[u8], o: usize) -> u8
+        requires { ⌜ Framed (now b) ⌝ }
+        requires { ⌜ o < observers (now b) ⌝ }
+        ensures { λ r. ⌜ r ≡ observer (now (b .entry)) o ⌝ }
+    {
+        let form = Part::form(b);
+        let at = form.levels + o;
+        b[at]
     }
 
     pub fn states(b: &[u8]) -> usize
-        requires { ⌜ columns-at ≤ length (now b) ⌝ }
+        requires { ⌜ lists-at ≤ length (now b) ⌝ }
         ensures { λ r. ⌜ r ≡ states (now (b .entry)) ⌝ }
         ensures { λ r. ⌜ r < 256 ⌝ }
     {
@@ -87,14 +121,14 @@ impl Part {
     }
 
     pub fn start(b: &[u8]) -> usize
-        requires { ⌜ columns-at ≤ length (now b) ⌝ }
+        requires { ⌜ lists-at ≤ length (now b) ⌝ }
         ensures { λ r. ⌜ r ≡ start (now (b .entry)) ⌝ }
     {
         le::u8_at(b, 8)
     }
 
     pub fn events(b: &[u8]) -> usize
-        requires { ⌜ columns-at ≤ length (now b) ⌝ }
+        requires { ⌜ lists-at ≤ length (now b) ⌝ }
         ensures { λ r. ⌜ r ≡ events (now (b .entry)) ⌝ }
         ensures { λ r. ⌜ r < 256 ⌝ }
     {
@@ -106,19 +140,23 @@ impl Part {
         ensures { λ r. ⌜ r ≡ counts (now (b .entry)) ⌝ }
         ensures { λ r. ⌜ Few r ⌝ }
     {
+        let form = Part::form(b);
         Counts {
+            form,
             states: Part::states(b),
             events: Part::events(b),
         }
     }
 
-    // The class column, as a part of the record.
-    pub fn column(b: &[u8]) -> &[u8]
+    // Class column o, as a part of the record.
+    pub fn column(b: &[u8], o: usize) -> &[u8]
         requires { ⌜ Framed (now b) ⌝ }
-        ensures { λ r. ⌜ now r ≡ column (now (b .entry)) ⌝ }
+        requires { ⌜ o < form-of (now b) .columns ⌝ }
+        ensures { λ r. ⌜ now r ≡ column (now (b .entry)) o ⌝ }
     {
-        let at = Part::COLUMNS;
-        let end = at + Part::states(b);
+        let counts = Part::counts(b);
+        let at = counts.column_at(o);
+        let end = at + counts.states;
         &b[at..end]
     }
 

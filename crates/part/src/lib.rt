@@ -1,12 +1,9 @@
-// The part record (document 01, "The part record"): its limits, its fields, and its rejections.
-pub mod answer;
+// The part record (document 01, "The part record"): its limits, its format by kind, and its fields.
 mod field;
 pub mod format;
 mod place;
-mod rejection;
 
-pub use answer::Rejection;
-pub use answer::Screening;
 pub use field::Part;
+pub use field::classes_with;
 pub use format::Counts;
-pub use rejection::screen;
+pub use format::Form;

@@ -1,17 +1,50 @@
-// Where the parts of a record begin, and how long it is, by its counts (specs/Format.antt).
+// The form of a record by its kind; where its parts begin, and how long it is, by its counts (specs/Format.antt).
 ghost use mathlib.Core.Path.{_≡_};
-ghost use Rattle.part.specs.Format.{entries-at, rows-at, body-size, record-size};
+ghost use Prim.Native.Nat.{_<_};
+ghost use Rattle.part.specs.Format.{form, column-at, entries-at, rows-at, body-size, record-size};
 ghost use Rattle.part.specs.Frame.{Few};
 use crate::field::Part;
 use crate::format::Counts;
+use crate::format::Form;
+
+impl Form {
+    // The form of a record of this kind, with this first byte.
+    pub fn of(kind: usize, lead: usize) -> Form
+        ensures { λ r. ⌜ r ≡ form kind lead ⌝ }
+    {
+        if kind == Part::SEVERAL {
+            return Form {
+                observers: lead,
+                levels: Part::LISTS,
+                listed: lead,
+                columns: lead,
+            };
+        }
+        Form {
+            observers: 1,
+            levels: Part::HEADER,
+            listed: 0,
+            columns: 1,
+        }
+    }
+}
 
 impl Counts {
-    // The entries stand behind the class column, which has a byte for each state.
+    // Column o, behind the list and the columns before it. A column has a byte for each state.
+    pub fn column_at(self, o: usize) -> usize
+        requires { ⌜ Few self ⌝ }
+        requires { ⌜ o < self .form .columns ⌝ }
+        ensures { λ r. ⌜ r ≡ column-at self o ⌝ }
+    {
+        Part::LISTS + self.form.listed + o * self.states
+    }
+
+    // The entries stand behind the columns.
     pub fn entries_at(self) -> usize
         requires { ⌜ Few self ⌝ }
         ensures { λ r. ⌜ r ≡ entries-at self ⌝ }
     {
-        Part::COLUMNS + self.states
+        Part::LISTS + self.form.listed + self.form.columns * self.states
     }
 
     // The rows stand behind the entries.
@@ -26,8 +59,9 @@ impl Counts {
         requires { ⌜ Few self ⌝ }
         ensures { λ r. ⌜ r ≡ body-size self ⌝ }
     {
+        let columns = self.form.columns * self.states;
         let rows = self.events * self.states;
-        Part::NUMBERS + self.states + Part::ENTRY * self.events + Part::ROW * rows
+        Part::NUMBERS + self.form.listed + columns + Part::ENTRY * self.events + Part::ROW * rows
     }
 
     pub fn record_size(self) -> usize

@@ -3,14 +3,14 @@ ghost use mathlib.Core.Path.{_≡_};
 ghost use mathlib.Core.List.{_++_};
 ghost use Prim.Native.Nat.{_≤_};
 ghost use lib.ListN.{length, take, drop};
-ghost use Rattle.part.specs.Answers.{number-of};
+ghost use Rattle.screening.specs.Answers.{number-of};
 ghost use Rattle.restrictive.specs.Answers.{violation-of, verdict-of};
 ghost use Rattle.restrictive.specs.Verdict.{refused, breaks, verdict};
 ghost use Rattle.report.specs.Line.{line, judged-bytes, line-of};
-use part::Rejection;
 use restrictive::Verdict;
 use restrictive::Violation;
 use restrictive::call::check;
+use screening::Rejection;
 use text::decimal::labelled;
 use words::copy::lay;
 

@@ -1,8 +1,8 @@
 -- A record and the same bytes with its internal events turned into outputs: they differ in the kinds alone, so that the
 -- one is accepted with the other, and their machines are related as `IsEarlier` asks.
-use Prim.Native.Nat.{ℕ, zero, suc, _+_, _≤_, _<_}
-use mathlib.Core.Path.{_≡_, refl, sym, ap, _∙_}
-use mathlib.Core.Bool.{Bool, cond, _||_}
+use Prim.Native.Nat.{ℕ, zero, suc, _+_, _*_, _≤_, _<_}
+use mathlib.Core.Path.{_≡_, refl, sym, ap, _∙_, subst}
+use mathlib.Core.Bool.{Bool, not, cond, _||_}
 use mathlib.Core.List.{List, [], _∷_, append-nil}
 use mathlib.Core.Option.{Option, none, some}
 use mathlib.Core.Logic.{_↔_}
@@ -21,18 +21,25 @@ use Rattle.machine.proofs.Earlier.{IsEarlier}
 use Rattle.words.specs.LittleEndian.{byte}
 use Rattle.words.proofs.LittleEndian.{length-each, number-same, bytes-part, stands-to, stands-each, stands-byte}
 use Rattle.level.specs.Level.{low, mislabelled}
-use Rattle.part.specs.Format.{columns-at, max-event-kind, record-size}
-use Rattle.part.specs.Record.{body-length, kind, observer, states, start, events, counts, column, entry-at}
+use Rattle.part.specs.Format.{lists-at, entries-at, rows-at, column-at, max-event-kind, body-size, record-size}
+use Rattle.part.specs.Record.{body-length, kind, lead, form-of, observers, observer, states, start, events, counts}
+use Rattle.part.specs.Record.{column, entry-at}
 use Rattle.part.specs.Record.{identifier, event-kind, level, row-at, row}
-use Rattle.part.specs.Rejections.{too-short, wrong-length, wrong-kind, out-of-range, wrong-size, misnumbered}
-use Rattle.part.specs.Rejections.{falls-at, unknown-at, misordered-at, misordered, mislabelled-at, mislabelled-part}
-use Rattle.part.specs.Rejections.{strays-at, row-strays, stray-bit, Accepted}
+use Rattle.part.specs.declared.format.Form.{Form}
+use Rattle.part.specs.declared.format.Counts.{Counts}
+use Rattle.part.specs.Frame.{Few}
+use Rattle.part.proofs.Fields.{formed, classes-before}
+use Rattle.screening.specs.Rejections.{too-short, wrong-length, wrong-kind, out-of-range, wrong-size, unnumbered, misnumbered-at, misnumbered}
+use Rattle.screening.specs.Rejections.{falls-at, unknown-at, misordered-at, misordered, mislabelled-at, mislabelled-observer}
+use Rattle.screening.specs.Rejections.{mislabelled-part}
+use Rattle.screening.specs.Rejections.{strays-at, row-strays, stray-bit, Accepted}
 use Rattle.part.specs.Events.{kind-of, at-place, place, event-of, Leads}
-use Rattle.part.specs.Machine.{machine, observation}
-use Rattle.part.proofs.Accepted.{in-frame, not-too-short, not-wrong-length, not-wrong-kind, not-out-of-range}
-use Rattle.part.proofs.Accepted.{not-wrong-size, not-misnumbered, not-misordered, not-mislabelled, not-stray}
-use Rattle.part.proofs.Ranges.{frame, ranges}
-use Rattle.part.proofs.Places.{places, event-none, event-at}
+use Rattle.screening.specs.Machine.{machine, observation}
+use Rattle.screening.proofs.Accepted.{in-frame, not-too-short, not-wrong-length, not-wrong-kind, not-out-of-range}
+use Rattle.screening.proofs.Accepted.{not-wrong-size, not-misnumbered, not-misordered, not-mislabelled, not-stray}
+use Rattle.screening.proofs.Ranges.{frame, ranges}
+use Rattle.screening.proofs.Places.{places}
+use Rattle.part.proofs.Places.{event-none, event-at}
 use Rattle.restrictive.specs.Earlier.{holds-kind, as-output-byte, as-outputs}
 
 -- The kind of an internal event is made that of an output; any other is kept.
@@ -83,12 +90,12 @@ module _ (b : List ℕ) (a : Accepted (as-outputs b)) where
   abbrev c : List ℕ
   c = as-outputs b
 
-  -- Before the classes end no entry has begun.
-  front : (x : ℕ) → x < columns-at + states b → x < length b → byte c x ≡ byte b x
+  -- Before the columns end no entry has begun.
+  front : (x : ℕ) → x < entries-at (counts b) → x < length b → byte c x ≡ byte b x
   unfolding entry-at
   front x h l = byte-kept b x l (λ i m e. omega arith)
 
-  long : columns-at ≤ length b
+  long : lists-at ≤ length b
   long = omega (arith, length-as b, frame c a .whole)
 
   same-states : states c ≡ states b
@@ -99,9 +106,9 @@ module _ (b : List ℕ) (a : Accepted (as-outputs b)) where
   unfolding events
   same-events = front 9 (omega arith) (omega (arith, long))
 
-  same-observer : observer c ≡ observer b
-  unfolding observer
-  same-observer = front 6 (omega arith) (omega (arith, long))
+  same-lead : lead c ≡ lead b
+  unfolding lead
+  same-lead = front 6 (omega arith) (omega (arith, long))
 
   same-start : start c ≡ start b
   unfolding start
@@ -115,24 +122,42 @@ module _ (b : List ℕ) (a : Accepted (as-outputs b)) where
   unfolding kind
   same-kind = number-same 2 c b 4 4 (λ j h. front (4 + j) (omega arith) (omega (arith, long)))
 
+  same-form : form-of c ≡ form-of b
+  same-form = rw (same-kind, same-lead) refl
+
   same-counts : counts c ≡ counts b
-  same-counts = rw (same-states, same-events) refl
+  same-counts = let f = same-form in let n = same-states in let m = same-events in cc
 
   whole : length b ≡ record-size (counts b)
   whole = sym (length-as b) ∙ frame c a .whole ∙ ap record-size same-counts
 
-  same-column : column c ≡ column b
-  unfolding column
-  same-column =
-      ap (λ (n : ℕ). take n (drop columns-at c)) same-states
-      ∙ sym (bytes-part (states b) c columns-at (omega (arith, whole, length-as b)))
-      ∙ each-same (states b) (λ s. byte c (columns-at + s) ∷ []) (λ s. byte b (columns-at + s) ∷ [])
-      (λ s h. ap (λ (x : ℕ). x ∷ []) (front (columns-at + s) (omega arith) (omega (arith, whole))))
-      ∙ bytes-part (states b) b columns-at (omega (arith, whole))
+  few : Few (counts b)
+  few = subst Few same-counts (frame c a .few)
+
+  -- ---- each observer
+
+  module _ (o : ℕ) (l : o < observers b) where
+    same-observer : observer c o ≡ observer b o
+    unfolding observer
+    same-observer =
+        let w = formed (kind b) (lead b) in
+        ap (λ (f : Form). byte c (f .levels + o)) same-form
+        ∙ front (form-of b .levels + o) (omega (arith, w .before)) (omega (arith, w .before, whole))
+
+    same-column : column c o ≡ column b o
+    unfolding column
+    same-column =
+        let at = column-at (counts b) o in
+        let inside = classes-before (counts b) few o (omega (arith, formed (kind b) (lead b) .own)) in
+        ap (λ (k : Counts). take (k .states) (drop (column-at k o) c)) same-counts
+        ∙ sym (bytes-part (states b) c at (omega (arith, whole, length-as b)))
+        ∙ each-same (states b) (λ s. byte c (at + s) ∷ []) (λ s. byte b (at + s) ∷ [])
+        (λ s h. ap (λ (x : ℕ). x ∷ []) (front (at + s) (omega arith) (omega (arith, whole))))
+        ∙ bytes-part (states b) b at (omega (arith, whole))
 
   same-entry : (i : ℕ) → entry-at c i ≡ entry-at b i
   unfolding entry-at
-  same-entry i = omega (arith, same-states)
+  same-entry i = ap (λ (k : Counts). entries-at k + 4 * i) same-counts
 
   module _ (i : ℕ) (h : i < events b) where
     same-identifier : identifier c i ≡ identifier b i
@@ -159,15 +184,18 @@ module _ (b : List ℕ) (a : Accepted (as-outputs b)) where
     same-row : (s : ℕ) → s < states b → row c i s ≡ row b i s
     unfolding row row-at entry-at
     same-row s l =
-        let place : row-at c i s ≡ row-at b i s = rw (same-states, same-events) in
+        let place = ap (λ (k : Counts). rows-at k + 8 * (i * k .states + s)) same-counts in
         number-same 8 c b (row-at c i s) (row-at b i s) (λ j m.
         ap (byte c) (ap (λ (x : ℕ). x + j) place)
         ∙ byte-kept b (row-at b i s + j) (omega (arith, whole, digits-lt {c = states b} h l)) (λ k n e. omega arith))
 
   -- ---- the conditions: each holds of b exactly if it holds of c
 
-  at-events : (f g : ℕ → Bool) → ((i : ℕ) → i < events b → f i ≡ g i) → any (events b) f ≡ any (events c) g
-  at-events f g same = any-same (events b) f g same ∙ ap (λ (m : ℕ). any m g) (sym same-events)
+  at-each : {n m : ℕ} (f g : ℕ → Bool) → m ≡ n → ((i : ℕ) → i < n → f i ≡ g i) → any n f ≡ any m g
+  at-each {n} f g e same = any-same n f g same ∙ ap (λ (k : ℕ). any k g) (sym e)
+
+  same-observers : observers c ≡ observers b
+  same-observers = let f = same-form in cc
 
   short : too-short b ≡ too-short c
   unfolding too-short
@@ -187,11 +215,11 @@ module _ (b : List ℕ) (a : Accepted (as-outputs b)) where
 
   in-size : wrong-size b ≡ wrong-size c
   unfolding wrong-size
-  in-size = rw (same-length, same-states, same-events) refl
+  in-size = rw same-length (ap (λ (k : Counts). not (eqb (body-length b) (body-size k))) (sym same-counts))
 
   numbered : misnumbered b ≡ misnumbered c
-  unfolding misnumbered
-  numbered = rw same-column refl
+  unfolding misnumbered misnumbered-at
+  numbered = at-each _ _ same-observers (λ o h. ap unnumbered (sym (same-column o h)))
 
   in-place : (i : ℕ) → i < events b → misordered-at b i ≡ misordered-at c i
   unfolding misordered-at falls-at unknown-at
@@ -201,20 +229,22 @@ module _ (b : List ℕ) (a : Accepted (as-outputs b)) where
 
   ordered : misordered b ≡ misordered c
   unfolding misordered
-  ordered = at-events _ _ in-place
+  ordered = at-each _ _ same-events in-place
 
   labelled : mislabelled-part b ≡ mislabelled-part c
-  unfolding mislabelled-part mislabelled-at
+  unfolding mislabelled-part mislabelled-observer mislabelled-at
   labelled =
-      rw same-observer
-      (ap (λ (p : Bool). mislabelled (observer b) || p) (at-events _ _ (λ i h. ap mislabelled (sym (same-level i h)))))
+      let first = at-each (mislabelled-observer b) (mislabelled-observer c) same-observers
+      (λ o h. ap mislabelled (sym (same-observer o h))) in
+      let second = at-each (mislabelled-at b) (mislabelled-at c) same-events
+      (λ i h. ap mislabelled (sym (same-level i h))) in
+      cc
 
   within : stray-bit b ≡ stray-bit c
   unfolding stray-bit row-strays strays-at
   within =
-      at-events _ _ (λ i h.
-      any-same (states b) (strays-at b i) (strays-at c i) (λ s l. rw (same-states, same-row i h s l) refl)
-      ∙ ap (λ (n : ℕ). any n (strays-at c i)) (sym same-states))
+      at-each _ _ same-events (λ i h.
+      at-each (strays-at b i) (strays-at c i) same-states (λ s l. rw (same-states, same-row i h s l) refl))
 
   pub earlier-accepted : Accepted b
   earlier-accepted =
@@ -264,13 +294,13 @@ module _ (b : List ℕ) (a : Accepted (as-outputs b)) where
         record { at = l .at; placed = p; set = rw (same-row (l .at) i s h) at (l .set) },
   )
 
-  pub is-earlier : IsEarlier (machine b earlier-accepted) (observation b) (machine c a) (observation c)
-      (λ s s'. s .0 ≡ s' .0)
-  is-earlier = record {
+  pub is-earlier : (o : ℕ) → o < observers b
+      → IsEarlier (machine b earlier-accepted) (observation b o) (machine c a) (observation c o) (λ s s'. s .0 ≡ s' .0)
+  is-earlier o l = record {
     events = earlier-event;
-    lows = ap low same-observer;
+    lows = ap low (same-observer o l);
     there = λ s. ((s .0, rw same-states (s .1)), refl);
-    classes = λ {s} {s'} r. rw (r, same-column) refl;
+    classes = λ {s} {s'} r. rw (r, same-column o l) refl;
     forth = λ {e} {s} {t} {s'} r p. ((t .0, rw same-states (t .1)), rw r at (earlier-leads e _ _ (s .1) .0 p), refl);
     back = λ {e} {s} {s'} {t'} r p.
         ((t' .0, rw same-states at (t' .1)), earlier-leads e _ _ (s .1) .1 (rw (← r) at p), refl);

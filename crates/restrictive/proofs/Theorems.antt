@@ -12,11 +12,11 @@ use Rattle.machine.specs.Rules.{Rule, rule-1, rule-2, rule-3, rule-4, rule-5, R
 use Rattle.machine.proofs.Noninterference.{restrictive-hides}
 use Rattle.machine.proofs.Earlier.{earlier-related}
 use Rattle.part.specs.Record.{observer, states, observer-of}
-use Rattle.part.specs.Rejections.{Condition, first-of, rejection, Accepted}
-use Rattle.part.specs.Machine.{machine, observation}
-use Rattle.part.proofs.Accepted.{skip, hit, rejection-none}
-use Rattle.part.proofs.Places.{places}
-use Rattle.part.proofs.Ranges.{ranges}
+use Rattle.screening.specs.Rejections.{Condition, first-of, rejection, Accepted}
+use Rattle.screening.specs.Machine.{machine, observation}
+use Rattle.screening.proofs.Accepted.{skip, hit, rejection-none}
+use Rattle.screening.proofs.Places.{places}
+use Rattle.screening.proofs.Ranges.{ranges}
 use Rattle.restrictive.specs.Tests.{answers}
 use Rattle.relations.specs.Relations.{rule-at, silent-step, reach-for, reach, visits-for, visits, closure-sizes}
 use Rattle.relations.proofs.SilentReach.{reach-self}
@@ -78,7 +78,7 @@ in-order-same v w e =
 -- ---- the violations that the tests show are the breaks of the machine
 
 module _ (b : List ℕ) (a : Accepted b) where
-  names-iff : (v : Violation) → IsViolation b (observer-of b) v ↔ Names b a v
+  names-iff : (v : Violation) → IsViolation b (observer-of b 0) v ↔ Names b a v
   names-iff v = (
     λ (k, (i, (s, (t, (u, (c, q)))))).
         subst (Names b a) q (record {
@@ -87,27 +87,27 @@ module _ (b : List ℕ) (a : Accepted b) where
           t = t;
           u = u;
           as-named = rw (rule-at-number _ (k .1));
-          is-broken = broken-iff b a _ _ (places b a .found (i .0) (i .1)) _ s t u .0 c;
+          is-broken = broken-iff b a 0 _ _ (places b a .found (i .0) (i .1)) _ s t u .0 c;
         }),
     λ w.
         let r = w .the-rule in
-        let (i, p) = asked-placed b a r _ _ _ _ (w .is-broken .0) in
+        let (i, p) = asked-placed b a 0 r _ _ _ _ (w .is-broken .0) in
         let (k, at, number) = rule-place r in
         let (h, event) = places b a .stands (v .event) i p in
-        let c = broken-iff b a _ i p r _ _ _ .1 (w .is-broken) in
+        let c = broken-iff b a 0 _ i p r _ _ _ .1 (w .is-broken) in
         (k, ((i, h), (w .s, (w .t, (w .u, (rw at c, in-order-same _ v (cc))))))),
   )
 
   -- The search for the first violation is one for the first break.
-  finds-break : Finds in-order (Names b a) (first-violation b (observer-of b))
-  finds-break = finds-as names-iff (finds-violation b (observer-of b) (ranges b a .identifiers-rise))
+  finds-break : Finds in-order (Names b a) (first-violation b (observer-of b 0))
+  finds-break = finds-as names-iff (finds-violation b (observer-of b 0) (ranges b a .identifiers-rise))
 
   -- It finds nothing exactly if the machine is restrictive.
-  restrictive-iff : (first-violation b (observer-of b) ≡ none) ↔ Restrictive (machine b a) (observation b)
+  restrictive-iff : (first-violation b (observer-of b 0) ≡ none) ↔ Restrictive (machine b a) (observation b 0)
   restrictive-iff = (
     λ q r e s t u h.
-        let (i, p) = asked-placed b a r e s t u h in
-        not-not (answers b (observer-of b) r i (s .0) (t .0) (u .0)) (answers-iff b a e i p r s t u) (λ n.
+        let (i, p) = asked-placed b a 0 r e s t u h in
+        not-not (answers b (observer-of b 0) r i (s .0) (t .0) (u .0)) (answers-iff b a 0 e i p r s t u) (λ n.
         finds-break .nothing .0 q (record { rule = rule-number r; event = e; s = s .0; t = t .0; u = u .0 })
         (record { the-rule = r; s = s; t = t; u = u; as-named = refl; is-broken = (h, n) })),
     λ R. finds-break .nothing .1
@@ -145,7 +145,7 @@ not-refused k none e = let z : _≡_ {A = ℕ} 0 1 = cc in omega arith
 not-refused k (some v) e = let z : _≡_ {A = ℕ} 0 1 = cc in omega arith
 
 module _ (b : List ℕ) where
-  accepted : Accepted b → verdict b ≡ by-rules (first-violation b (observer-of b))
+  accepted : Accepted b → verdict b ≡ by-rules (first-violation b (observer-of b 0))
   unfolding verdict after-rejection
   accepted a = rw (rejection-none b .1 a)
 
@@ -161,7 +161,7 @@ module _ (b : List ℕ) where
       go (some k) p = inr (k, p)
 
   by-rules-iff : (o : Option Violation)
-      → (verdict b ≡ by-rules o) ↔ (Accepted b × (first-violation b (observer-of b) ≡ o))
+      → (verdict b ≡ by-rules o) ↔ (Accepted b × (first-violation b (observer-of b 0) ≡ o))
   by-rules-iff o = (
     λ e.
         ⊎-elim
@@ -197,7 +197,7 @@ refused-exactly b k = (
 )
 
 -- For any proof that no rejection applies.
-pub passing-restrictive : (b : List ℕ) (a : Accepted b) → verdict b ≡ pass → Restrictive (machine b a) (observation b)
+pub passing-restrictive : (b : List ℕ) (a : Accepted b) → verdict b ≡ pass → Restrictive (machine b a) (observation b 0)
 unfolding by-rules
 passing-restrictive b a e = restrictive-iff b a .0 (by-rules-iff b _ .0 e .1)
 
@@ -207,7 +207,7 @@ passing-hides b a e = restrictive-hides _ _ _ (passing-restrictive b a e)
 pub earlier-passes : EarlierPasses
 earlier-passes b e =
     let (a, R) = passes-exactly (as-outputs b) .0 e in
-    passes-exactly b .1 (earlier-accepted b a, earlier-related (is-earlier b a) R)
+    passes-exactly b .1 (earlier-accepted b a, earlier-related (is-earlier b a 0 (ranges b (earlier-accepted b a) .some-observer)) R)
 
 -- ---- a break names one of the five rules
 
@@ -229,32 +229,32 @@ break-rule b v e =
 
 -- The closures of the states of a record, together: as many as their visits, at least n, and at most n times n.
 module _ (b : List ℕ) where
-  sizes-visits : closure-sizes b (observer b) ≡ total (states b) (λ s. length (visits b s))
+  sizes-visits : closure-sizes b (observer b 0) ≡ total (states b) (λ s. length (visits b 0 s))
   unfolding closure-sizes visits-for reach-for
   sizes-visits =
-      total-same (states b) _ _ (λ s h. sym (length-visits (silent-step b (observer b)) (states b) s))
+      total-same (states b) _ _ (λ s h. sym (length-visits (silent-step b (observer b 0)) (states b) s))
 
-  sizes-within : (states b ≤ closure-sizes b (observer b)) × (closure-sizes b (observer b) ≤ states b * states b)
+  sizes-within : (states b ≤ closure-sizes b (observer b 0)) × (closure-sizes b (observer b 0) ≤ states b * states b)
   unfolding closure-sizes
   sizes-within =
-      let (least, most) = total-within (states b) 1 (states b) (λ s. count (states b) (reach b s)) (λ s h. (
-        count-some (states b) (reach b s) s h (reach-self b (observer b) s h),
-        count-le (states b) (reach b s),
+      let (least, most) = total-within (states b) 1 (states b) (λ s. count (states b) (reach b 0 s)) (λ s h. (
+        count-some (states b) (reach b 0 s) s h (reach-self b (observer b 0) s h),
+        count-le (states b) (reach b 0 s),
       )) in
       (omega arith, most)
 
-  takes-all : TakesUp b → taken b ≡ closure-sizes b (observer b)
+  takes-all : TakesUp b → taken b ≡ closure-sizes b (observer b 0)
   unfolding taken taken-by
-  takes-all (passing e) = ap (λ (v : Verdict). taken-by v (closure-sizes b (observer b))) e
+  takes-all (passing e) = ap (λ (v : Verdict). taken-by v (closure-sizes b (observer b 0))) e
   takes-all (breaking v e late) =
-      ap (λ (v : Verdict). taken-by v (closure-sizes b (observer b))) e ∙ taken-all v _ late
+      ap (λ (v : Verdict). taken-by v (closure-sizes b (observer b 0))) e ∙ taken-all v _ late
 
   -- It takes them up, or nothing.
   takes-or-not : TakesUp b ⊎ (taken b ≡ 0)
   unfolding taken taken-by
   takes-or-not = go (verdict b) refl
     where
-      go : (v : Verdict) → verdict b ≡ v → TakesUp b ⊎ (taken-by (verdict b) (closure-sizes b (observer b)) ≡ 0)
+      go : (v : Verdict) → verdict b ≡ v → TakesUp b ⊎ (taken-by (verdict b) (closure-sizes b (observer b 0)) ≡ 0)
       go pass e = inl (passing e)
       go (refused k) e = inr (rw e)
       go (breaks v) e =

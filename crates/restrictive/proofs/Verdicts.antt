@@ -6,9 +6,9 @@ use mathlib.Core.List.{List}
 use mathlib.Core.Option.{Option, none, some}
 use native.Mathlib.Omega.{arith}
 use Rattle.part.specs.Record.{observer, column, observer-of}
-use Rattle.part.specs.Rejections.{rejection}
-use Rattle.part.proofs.Accepted.{rejection-none}
-use Rattle.part.proofs.Ranges.{ranges, frame, column-length}
+use Rattle.screening.specs.Rejections.{rejection}
+use Rattle.screening.proofs.Accepted.{rejection-none}
+use Rattle.screening.proofs.Ranges.{ranges, frame, column-length}
 use Rattle.relations.specs.Relations.{closure-sizes}
 use Rattle.relations.specs.Sets.{Sound}
 use Rattle.relations.proofs.Theorems.{rows-within}
@@ -24,7 +24,7 @@ pub refused-verdict : (b : List ℕ) (k : ℕ) → rejection b ≡ some k → ve
 unfolding verdict after-rejection
 refused-verdict b k e = ap (λ (o : Option ℕ). after-rejection o b) e
 
-pub rules-verdict : (b : List ℕ) (o : Option Violation) → rejection b ≡ none → first-violation b (observer-of b) ≡ o
+pub rules-verdict : (b : List ℕ) (o : Option Violation) → rejection b ≡ none → first-violation b (observer-of b 0) ≡ o
     → verdict b ≡ by-rules o
 unfolding verdict after-rejection
 rules-verdict b o e f = ap (λ (r : Option ℕ). after-rejection r b) e ∙ ap by-rules f
@@ -37,30 +37,31 @@ reports-refused b k e f =
     let whole = refused-verdict b k e in
     record {
       verdict = f ∙ sym whole;
-      taken = sym (ap (λ (w : plain.Verdict). taken-by w (closure-sizes b (observer b))) whole);
+      taken = sym (ap (λ (w : plain.Verdict). taken-by w (closure-sizes b (observer b 0))) whole);
     }
 
-pub reports-rules : (b : List ℕ) {v : Verdict} (f : Finding) → rejection b ≡ none → FindingOf b (observer-of b) f
+pub reports-rules : (b : List ℕ) {v : Verdict} (f : Finding) → rejection b ≡ none → FindingOf b (observer-of b 0) f
     → verdict-of v ≡ by-rules (found-of (f .found)) → Reports b (record { verdict = v; taken = f .taken })
 unfolding taken
 reports-rules b f e finds g =
     let whole = rules-verdict b _ e refl in
     record {
       verdict = g ∙ ap by-rules (finds .found) ∙ sym whole;
-      taken = finds .taken ∙ ap (λ (w : plain.Verdict). taken-by w (closure-sizes b (observer b))) (sym whole);
+      taken = finds .taken ∙ ap (λ (w : plain.Verdict). taken-by w (closure-sizes b (observer b 0))) (sym whole);
     }
 
 -- What the rules need of an accepted record.
-pub ready : (b : List ℕ) → rejection b ≡ none → Sound b (column b)
+pub ready : (b : List ℕ) → rejection b ≡ none → Sound b (column b 0)
 ready b e =
     let a = rejection-none b .0 e in
-    let size = column-length b a in
+    let first = frame b a .some-observer in
+    let size = column-length b a 0 first in
     record {
       framed = frame b a;
       within = rows-within b a;
       sized = size;
       partition = record {
         few = omega (arith, frame b a .few .most-states);
-        below = λ s h. omega (arith, ranges b a .class-below s (omega arith), ranges b a .most-states);
+        below = λ s h. omega (arith, ranges b a .class-below 0 s first (omega arith), ranges b a .most-states);
       };
     }

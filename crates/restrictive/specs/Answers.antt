@@ -2,7 +2,7 @@
 use Prim.Native.Nat.{ℕ}
 use mathlib.Core.Path.{_≡_}
 use mathlib.Core.List.{List}
-use Rattle.part.specs.Answers.{number-of}
+use Rattle.screening.specs.Answers.{number-of}
 use Rattle.restrictive.specs.declared.answer.Violation.{Violation}
 use Rattle.restrictive.specs.declared.answer.Verdict.{Verdict}
 use Rattle.restrictive.specs.declared.answer.Verdict.the-variants.{Pass, Refused, Break}

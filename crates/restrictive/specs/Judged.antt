@@ -9,7 +9,7 @@ use Rattle.machine.specs.Roles.{at-level, role-of}
 use Rattle.words.specs.Sets.{bit}
 use Rattle.level.specs.Level.{rank, at-or-below, low}
 use Rattle.part.specs.Record.{observer}
-use Rattle.part.specs.Computed.{rejected-with}
+use Rattle.screening.specs.Computed.{rejected-with}
 use Rattle.part.specs.Events.{kind-of}
 use Rattle.relations.specs.Relations.{role-at, leads, same-class, step-by, silent-step, reach-for, closure-sizes, rule-at}
 use Rattle.restrictive.specs.Tests.{around, asks, answers, broken}

@@ -9,15 +9,15 @@ use Rattle.bounded.specs.Search.{total}
 use Rattle.machine.specs.Rules.{Rule, rule-1, rule-2, rule-3, rule-4, rule-5, Restrictive, Broken}
 use Rattle.machine.specs.Noninterference.{Noninterfering}
 use Rattle.part.specs.Record.{states}
-use Rattle.part.specs.Rejections.{Condition, conditions, Accepted}
-use Rattle.part.specs.Machine.{State, machine, observation}
+use Rattle.screening.specs.Rejections.{Condition, conditions, Accepted}
+use Rattle.screening.specs.Machine.{State, machine, observation}
 use Rattle.relations.specs.Relations.{visits}
 use Rattle.restrictive.specs.Verdict.{Violation, pass, refused, breaks, verdict, taken}
 use Rattle.restrictive.specs.Earlier.{as-outputs}
 
 -- A record passes exactly if no rejection applies to it and its machine is restrictive with its own partition (demand 2).
 abbrev pub PassesExactly : Type 0
-PassesExactly = (b : List ℕ) → (verdict b ≡ pass) ↔ ((a : Accepted b) × Restrictive (machine b a) (observation b))
+PassesExactly = (b : List ℕ) → (verdict b ≡ pass) ↔ ((a : Accepted b) × Restrictive (machine b a) (observation b 0))
 
 -- The condition with number k holds, and none before it in the list.
 pub data FirstHolding (b : List ℕ) : List Condition → ℕ → Type 0 where
@@ -52,7 +52,7 @@ pub record Names (b : List ℕ) (a : Accepted b) (v : Violation) : Type 0 where
   pub t : State b
   pub u : State b
   pub as-named : in-order v ≡ rule-number the-rule ∷ v .event ∷ s .0 ∷ t .0 ∷ u .0 ∷ []
-  pub is-broken : Broken (machine b a) (observation b) the-rule (v .event) s t u
+  pub is-broken : Broken (machine b a) (observation b 0) the-rule (v .event) s t u
 
 -- A break is named exactly if it is one, and none is before it in that order.
 abbrev pub BreaksExactly : Type 0
@@ -62,7 +62,7 @@ BreaksExactly =
 
 -- A passing part hides its high inputs: generalized noninterference (demand 3, last sentence).
 abbrev pub PassingHides : Type 0
-PassingHides = (b : List ℕ) (a : Accepted b) → verdict b ≡ pass → Noninterfering (machine b a) (observation b)
+PassingHides = (b : List ℕ) (a : Accepted b) → verdict b ≡ pass → Noninterfering (machine b a) (observation b 0)
 
 -- A record that passed in the earlier reading passes (document 02, i). Document 01 treats an internal event as an output of its level, so
 -- that the earlier reading of b is the reading of b with each kind 2 made 1.
@@ -77,7 +77,7 @@ pub data TakesUp (b : List ℕ) : Type 0 where
 -- The count is the number of the visits from all states, which are the states of their silent closures, exactly in those cases, and 0 in
 -- all others (request f).
 pub record Takes (b : List ℕ) : Type 0 where
-  pub all-closures : TakesUp b → taken b ≡ total (states b) (λ s. length (visits b s))
+  pub all-closures : TakesUp b → taken b ≡ total (states b) (λ s. length (visits b 0 s))
   pub no-closures : (taken b ≡ 0) ↔ (TakesUp b → ⊥)
 
 abbrev pub TakenExactly : Type 0

@@ -7,7 +7,7 @@ use mathlib.Core.Option.{Option, none, some}
 use lib.Dec.{eqb}
 use Rattle.bounded.specs.Search.{first, when}
 use Rattle.part.specs.Record.{observer, states, events, identifier, Observer, observer-of}
-use Rattle.part.specs.Rejections.{rejection}
+use Rattle.screening.specs.Rejections.{rejection}
 use Rattle.relations.specs.Relations.{rule-at, closure-sizes}
 use Rattle.restrictive.specs.Tests.{broken}
 
@@ -48,7 +48,7 @@ by-rules none = pass
 by-rules (some v) = breaks v
 
 unfoldable pub after-rejection : Option ℕ → List ℕ → Verdict
-after-rejection none b = by-rules (first-violation b (observer-of b))
+after-rejection none b = by-rules (first-violation b (observer-of b 0))
 after-rejection (some k) b = refused k
 
 unfoldable pub verdict : List ℕ → Verdict
@@ -62,4 +62,4 @@ taken-by (refused k) sizes = 0
 taken-by (breaks v) sizes = cond (eqb (v .rule) 4 || eqb (v .rule) 5) sizes 0
 
 unfoldable pub taken : List ℕ → ℕ
-taken b = taken-by (verdict b) (closure-sizes b (observer b))
+taken b = taken-by (verdict b) (closure-sizes b (observer b 0))

@@ -1,5 +1,5 @@
 // The answers of Check, and the cases that it judges. specs/Answers.antt gives each answer its meaning.
-use part::Rejection;
+use screening::Rejection;
 
 // A violation of a rule (document 01: a break): the rule's number, the event's identifier, and the states s, t, u.
 pub struct Violation {

@@ -8,8 +8,8 @@ use crate::answer::Report;
 use crate::answer::Verdict;
 use crate::rules::first_violation;
 use part::Part;
-use part::Screening;
-use part::screen;
+use screening::Screening;
+use screening::screen;
 
 // The verdict by what the rules find.
 fn by_rules(found: Found) -> Verdict
@@ -33,7 +33,7 @@ pub fn check(bytes: &[u8]) -> Report
         },
         Screening::Accepted => {}
     }
-    let rules = first_violation(bytes, Part::observer(bytes), Part::column(bytes));
+    let rules = first_violation(bytes, Part::observer(bytes, 0), Part::column(bytes, 0));
     let found = rules.found;
     Report {
         verdict: by_rules(found),

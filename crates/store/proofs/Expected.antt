@@ -9,7 +9,7 @@ use lib.Dec.{eqb}
 use borrow.Author.Tests.{eq-eqb}
 use Rattle.bounded.specs.Search.{or-else, first, when}
 use Rattle.bounded.proofs.Search.{or-now, true-not-false}
-use Rattle.part.specs.Rejections.{Condition, conditions}
+use Rattle.screening.specs.Rejections.{Condition, conditions}
 use Rattle.restrictive.specs.Verdict as check
 use Rattle.restrictive.specs.Verdict.{Violation, verdict}
 use Rattle.restrictive.specs.Theorems.{FirstHolding, here, later}

@@ -13,9 +13,9 @@ use borrow.Author.Tests.{lt-ltb, le-ltb, le-leb, lt-leb}
 use Rattle.words.specs.LittleEndian.{Bytes}
 use Rattle.words.specs.Laid.{over}
 use Rattle.words.proofs.LaidLaws.{length-over, over-start}
-use Rattle.part.specs.Rejections.{Accepted}
-use Rattle.part.proofs.Proper.{proper-fits}
-use Rattle.part.proofs.ReadBack.{bytes-layout}
+use Rattle.screening.specs.Rejections.{Accepted}
+use Rattle.screening.proofs.Proper.{proper-fits}
+use Rattle.screening.proofs.ReadBack.{bytes-layout}
 use Rattle.restrictive.specs.Verdict as check
 use Rattle.restrictive.specs.Verdict.{Verdict, pass, verdict}
 use Rattle.restrictive.proofs.Theorems.{passes-exactly}

@@ -11,9 +11,9 @@ use Rattle.words.specs.LittleEndian.{number}
 use Rattle.words.proofs.LittleEndian.{number-inside}
 use Rattle.part.specs.Format.{part-kind}
 use Rattle.part.specs.Record.{body-length, kind}
-use Rattle.part.specs.Rejections.{wrong-kind, Accepted}
-use Rattle.part.proofs.Accepted.{in-frame, not-too-short, not-wrong-length, not-wrong-kind}
-use Rattle.part.proofs.Rejections.{long, rest}
+use Rattle.screening.specs.Rejections.{wrong-kind, Accepted}
+use Rattle.screening.proofs.Accepted.{in-frame, not-too-short, not-wrong-length, not-wrong-kind}
+use Rattle.screening.proofs.Rejections.{long, rest}
 use Rattle.store.specs.Walk.{end-record, record-of, front, walk}
 use Rattle.store.specs.Calls.{end-bytes}
 use Rattle.store.proofs.Each.{Each}

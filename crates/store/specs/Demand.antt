@@ -5,8 +5,8 @@ use mathlib.Core.List.{List, [], _∷_, _++_, flatten}
 use lib.ListN.{length}
 use Rattle.machine.specs.Noninterference.{Noninterfering}
 use Rattle.words.specs.LittleEndian.{Bytes}
-use Rattle.part.specs.Rejections.{Accepted}
-use Rattle.part.specs.Machine.{machine, observation}
+use Rattle.screening.specs.Rejections.{Accepted}
+use Rattle.screening.specs.Machine.{machine, observation}
 use Rattle.store.specs.Answer.{Answer, gives, refused}
 use Rattle.store.specs.Walk.{records}
 use Rattle.store.specs.Reading.{count, part}
@@ -45,7 +45,7 @@ pub record Begins (xs ys : List ℕ) : Type 0 where
 -- trace with the same low events and exactly those lists in its gaps.
 pub record Hides (b : List ℕ) : Type 0 where
   pub accepted : Accepted b
-  pub hides : Noninterfering (machine b accepted) (observation b)
+  pub hides : Noninterfering (machine b accepted) (observation b 0)
 
 -- Neither 12 nor 14.
 pub record Foreseen (a : Answer) : Type 0 where

@@ -2,7 +2,7 @@
 
 use super::dot::{escaped, filled};
 use super::{SEEN, UNSEEN};
-use crate::part::Table;
+use crate::part::{Observer, Table};
 use crate::verdict::{self, Verdict};
 
 const WIDTH: usize = 76;
@@ -11,11 +11,22 @@ fn row(content: &str) -> String {
     format!("<TR><TD ALIGN=\"LEFT\" BALIGN=\"LEFT\">{content}</TD></TR>")
 }
 
-fn verdict_row(table: &Table, verdict: &Verdict) -> String {
-    let words = verdict::words(table, verdict);
+/// Words on lines of the caption's width.
+fn lines(words: &str) -> String {
     let lines = filled(words.split_whitespace(), " ", WIDTH);
     let lines: Vec<String> = lines.iter().map(|line| escaped(line)).collect();
-    row(&format!("<B>{}</B>", lines.join("<BR/>")))
+    lines.join("<BR/>")
+}
+
+fn verdict_row(table: &Table, observer: &Observer, verdict: &Verdict) -> String {
+    row(&format!("<B>{}</B>", lines(&verdict::words(table, observer, verdict))))
+}
+
+/// The observers that the drawing does not show; nothing where the part has only one.
+fn other_observers(table: &Table, observer: &Observer) -> Option<String> {
+    let others = table.part.observers.iter().filter(|other| other.level != observer.level);
+    let levels: Vec<String> = others.map(|other| other.level.text_and_byte()).collect();
+    (!levels.is_empty()).then(|| row(&lines(&format!("not shown: observer {}", levels.join(", observer ")))))
 }
 
 /// What the observer sees of an event, then the signs.
@@ -27,11 +38,12 @@ fn legend() -> String {
 }
 
 /// The caption as an HTML-like label.
-pub fn caption(table: &Table, title: &str, verdict: Option<&Verdict>) -> String {
-    let observer = table.part.observer.text_and_byte();
-    let mut rows = row(&format!("<B>{}</B>, observer {}", escaped(title), escaped(&observer)));
+pub fn caption(table: &Table, observer: &Observer, title: &str, verdict: Option<&Verdict>) -> String {
+    let level = observer.level.text_and_byte();
+    let mut rows = row(&format!("<B>{}</B>, observer {}", escaped(title), escaped(&level)));
+    rows.extend(other_observers(table, observer));
     if let Some(verdict) = verdict {
-        rows.push_str(&verdict_row(table, verdict));
+        rows.push_str(&verdict_row(table, observer, verdict));
     }
     rows.push_str(&legend());
     format!("<<TABLE BORDER=\"0\" CELLBORDER=\"0\" CELLSPACING=\"2\">{rows}</TABLE>>")

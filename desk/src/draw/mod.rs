@@ -6,7 +6,8 @@ mod dot;
 mod edges;
 mod nodes;
 
-use crate::part::Table;
+use crate::level::Level;
+use crate::part::{Observer, Part, Table};
 use crate::verdict::Verdict;
 
 /// Colours of seen and unseen events. In grey print the line styles and the italics tell them apart.
@@ -14,18 +15,39 @@ const SEEN: &str = "#0b3d91";
 const UNSEEN: &str = "#c4400c";
 const FONT: &str = "Helvetica";
 
-/// The DOT text of a part. `title` stands over the legend; a verdict must fit the part.
-pub fn draw(table: &Table, title: &str, verdict: Option<&Verdict>) -> String {
+/// The observer to show: the one that was asked for, or the one whose break a verdict names, or the first.
+pub fn shown<'a>(
+    part: &'a Part,
+    asked: Option<Level>,
+    concerned: Option<&'a Observer>,
+) -> Result<&'a Observer, String> {
+    let Some(level) = asked else { return Ok(concerned.unwrap_or(&part.observers[0])) };
+    let asked = level.text_and_byte();
+    let Some(observer) = part.observer(level) else {
+        let levels: Vec<String> = part.observers.iter().map(|observer| observer.level.text_and_byte()).collect();
+        return Err(format!("there is no observer {asked}, only {}", levels.join(", ")));
+    };
+    match concerned.filter(|concerned| concerned.level != level) {
+        Some(other) => {
+            Err(format!("the verdict line is about the observer {}, not {asked}", other.level.text_and_byte()))
+        }
+        None => Ok(observer),
+    }
+}
+
+/// The DOT text of a part for one of its observers. `title` stands over the legend; a verdict must fit the part, and a
+/// break the observer.
+pub fn draw(table: &Table, observer: &Observer, title: &str, verdict: Option<&Verdict>) -> String {
     let broken = match verdict {
         Some(Verdict::Broken(named)) => Some(named),
         _ => None,
     };
     let mut lines = vec!["digraph part {".to_string()];
-    lines.extend(settings(&caption::caption(table, title, verdict)));
+    lines.extend(settings(&caption::caption(table, observer, title, verdict)));
     // The start comes first: Graphviz then lays out the steps from there.
     lines.extend(edges::start(&table.part));
-    lines.extend(nodes::clusters(table, broken));
-    lines.extend(edges::edges(table, broken));
+    lines.extend(nodes::clusters(table, observer, broken));
+    lines.extend(edges::edges(table, observer, broken));
     lines.push("}".to_string());
     lines.join("\n") + "\n"
 }
@@ -48,6 +70,7 @@ fn settings(caption: &str) -> Vec<String> {
 #[cfg(test)]
 mod tests {
     use super::*;
+    use crate::kinds::SEVERAL;
     use crate::random::{self, Rng};
     use crate::{reader, verdict};
 
@@ -68,12 +91,14 @@ event 3 internal rank 0 compartments none
 ";
 
     fn drawn(text: &str, line: Option<&str>) -> String {
-        let table = reader::read(text.as_bytes()).unwrap();
+        drawn_for(text, None, line)
+    }
+
+    fn drawn_for(text: &str, asked: Option<Level>, line: Option<&str>) -> String {
+        let table = reader::read_kinds(text.as_bytes(), SEVERAL).unwrap();
         let given = line.map(|line| verdict::read(line).unwrap());
-        if let Some(given) = &given {
-            verdict::fits(&table.part, given).unwrap();
-        }
-        draw(&table, "t & u.table", given.as_ref())
+        let concerned = given.and_then(|given| verdict::fits(&table.part, &given).unwrap());
+        draw(&table, shown(&table.part, asked, concerned).unwrap(), "t & u.table", given.as_ref())
     }
 
     /// The drawing's line with this beginning; there must be exactly one.
@@ -172,6 +197,90 @@ event 3 internal rank 0 compartments none
         assert!(!dot.contains("missing") && !dot.contains("3.5"));
     }
 
+    /// The table for two more observers: the first keeps all states together, the last sees all inputs and outputs.
+    fn watched() -> String {
+        let first = "observer rank 0 compartments none\nstates a b c\nstart b\nclasses {a b c}\n";
+        let text = TABLE
+            .replace("part\n", &format!("part\n{first}"))
+            .replace("states a b c\nstart b\nclasses {a b} {c}", "classes {a b} {c}");
+        text.replace("event 1", "observer rank 3 compartments none\nclasses {a} {b} {c}\nevent 1")
+    }
+
+    fn cluster_count(dot: &str) -> usize {
+        dot.lines().filter(|line| line.contains("subgraph cluster_")).count()
+    }
+
+    /// The first of several observers, or the one that was asked for; the caption says which.
+    #[test]
+    fn one_of_several_observers() {
+        let first = drawn(&watched(), None);
+        assert_eq!(cluster_count(&first), 1);
+        let caption = line(&first, "graph [label=<");
+        assert!(caption.contains("<B>t &amp; u.table</B>, observer rank 0 compartments none (0x00)</TD>"));
+        let others =
+            "not shown: observer rank 1 compartments none (0x40), observer rank 3<BR/>compartments none (0xC0)";
+        assert!(caption.contains(others), "{caption}");
+        assert!(line(&first, "s0 -> s2 [").contains("style=\"dashed\", color=\"#c4400c\""));
+        let last = drawn_for(&watched(), Some(Level(0xC0)), None);
+        assert_eq!(cluster_count(&last), 3);
+        let caption = line(&last, "graph [label=<");
+        assert!(caption.contains(", observer rank 3 compartments none (0xC0)</TD>"));
+        assert!(caption.contains("not shown: observer rank 0 compartments none (0x00), observer rank 1<BR/>"));
+        assert!(line(&last, "s1 -> s1 [").contains("style=\"solid\", color=\"#0b3d91\""));
+        assert!(!drawn(TABLE, None).contains("not shown"));
+    }
+
+    /// A drawing for an observer is that of the part with this observer alone, but for the observers not shown.
+    #[test]
+    fn a_drawing_for_an_observer() {
+        let mut rng = Rng::new(8);
+        for _ in 0..100 {
+            let part = random::several(&mut rng);
+            for observer in &part.observers {
+                let alone = Part { observers: vec![observer.clone()], ..part.clone() };
+                let dot = draw(&Table::unnamed(part.clone()), observer, "x", None);
+                let dot_alone = draw(&Table::unnamed(alone), observer, "x", None);
+                let (from, to) = (dot.find("<TR><TD ALIGN=\"LEFT\" BALIGN=\"LEFT\">not shown").unwrap(), "</TD></TR>");
+                let end = from + dot[from..].find(to).unwrap() + to.len();
+                assert_eq!(dot[..from].to_string() + &dot[end..], dot_alone);
+            }
+        }
+    }
+
+    /// The first observer keeps all states together, so for it every state has an answer.
+    #[test]
+    fn a_break_for_one_of_several_observers() {
+        let text = "part\nobserver rank 0 compartments none\nstates 3\nstart 0\nclasses {0 1 2}\n\
+                    observer rank 1 compartments none\nclasses {0 1} {2}\n\
+                    event 1 input rank 0 compartments none\n0 -> 2\n1 -> 1\n2 -> 2\n";
+        let dot = drawn(text, Some("rule 3 event 1 from 0 to 2 other 1"));
+        assert_eq!(cluster_count(&dot), 2);
+        assert!(line(&dot, "graph [label=<").contains(", observer rank 1 compartments none (0x40)</TD>"));
+        assert!(
+            dot.contains("<B>Rule 3 is broken for the observer rank 1 compartments none (0x40): the low<BR/>input 1")
+        );
+        assert!(line(&dot, "missing [").contains("✗ no answer to ?1"));
+        line(&dot, "s1 -> missing [");
+        assert_eq!(cluster_count(&drawn(text, Some("pass"))), 1);
+        assert!(drawn(text, Some("pass")).contains("The verdict given: pass, for each observer."));
+    }
+
+    #[test]
+    fn which_observer_is_shown() {
+        let part = reader::read_kinds(watched().as_bytes(), SEVERAL).unwrap().part;
+        let [first, second, third] = part.observers.as_slice() else { panic!() };
+        assert_eq!(shown(&part, None, None), Ok(first));
+        assert_eq!(shown(&part, None, Some(second)), Ok(second));
+        assert_eq!(shown(&part, Some(third.level), None), Ok(third));
+        assert_eq!(shown(&part, Some(second.level), Some(second)), Ok(second));
+        let other = "the verdict line is about the observer rank 1 compartments none (0x40), \
+                     not rank 3 compartments none (0xC0)";
+        assert_eq!(shown(&part, Some(third.level), Some(second)), Err(other.to_string()));
+        let none = "there is no observer rank 2 compartments 1 (0x82), only rank 0 compartments none (0x00), \
+                    rank 1 compartments none (0x40), rank 3 compartments none (0xC0)";
+        assert_eq!(shown(&part, Some(Level(0x82)), None), Err(none.to_string()));
+    }
+
     /// Is this line an edge between two states?
     fn is_step(line: &str) -> bool {
         let from = line.strip_prefix("  s").is_some_and(|rest| rest.starts_with(|c: char| c.is_ascii_digit()));
@@ -184,13 +293,13 @@ event 3 internal rank 0 compartments none
         let mut rng = Rng::new(6);
         for _ in 0..300 {
             let part = random::part(&mut rng);
-            let dot = draw(&Table::unnamed(part.clone()), "x", None);
+            let dot = draw(&Table::unnamed(part.clone()), &part.observers[0], "x", None);
             let count = |test: fn(&str) -> bool| dot.lines().filter(|line| test(line)).count();
-            let n = part.state_count();
+            let n = part.states;
             let pairs = (0..n * n).filter(|i| part.events.iter().any(|event| event.leads(i / n, i % n))).count();
             assert_eq!(count(is_step), pairs);
             assert_eq!(count(|line| line.starts_with("    s")), n);
-            assert_eq!(count(|line| line.contains("subgraph cluster_")), part.groups().len());
+            assert_eq!(count(|line| line.contains("subgraph cluster_")), part.observers[0].groups().len());
         }
     }
 }

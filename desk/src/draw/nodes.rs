@@ -2,7 +2,7 @@
 
 use super::breaks::{missing, roles};
 use super::dot::{attributes, escaped};
-use crate::part::Table;
+use crate::part::{Observer, Table};
 use crate::verdict::Break;
 
 /// The name above its number, and in a break the state's roles in a black box.
@@ -38,10 +38,10 @@ fn note(table: &Table, broken: Option<&Break>, group: &[usize]) -> Option<String
     Some(format!("    missing [shape=plaintext, style=\"\", label=<<B>✗ {}</B>>];", escaped(&words)))
 }
 
-/// A cluster for each class.
-pub fn clusters(table: &Table, broken: Option<&Break>) -> Vec<String> {
+/// A cluster for each class of the observer.
+pub fn clusters(table: &Table, observer: &Observer, broken: Option<&Break>) -> Vec<String> {
     let mut lines = Vec::new();
-    for (class, group) in table.part.groups().iter().enumerate() {
+    for (class, group) in observer.groups().iter().enumerate() {
         lines.push(format!("  subgraph cluster_{class} {{"));
         let title = format!("class {class}");
         let pairs = [("label", title.as_str()), ("labelloc", "t"), ("labeljust", "r"), ("style", "rounded,filled")];

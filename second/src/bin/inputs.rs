@@ -28,9 +28,9 @@ fn records(rng: &mut Rng) -> Vec<(&'static str, Vec<u8>)> {
     let (a, b) = make::joinable_pair(rng);
     let passing = record::write(&make::any_passing(rng));
     let mut damaged = passing.clone();
-    let refusal = rng.pick(&record::ORDER);
+    let refusal = rng.pick(&record::order());
     make::damage(rng, &mut damaged, refusal);
-    vec![
+    let mut made = vec![
         ("joins-a", record::write(&a)),
         ("joins-b", record::write(&b)),
         ("full", record::write(&make::full(rng, 64, 32))),
@@ -40,7 +40,15 @@ fn records(rng: &mut Rng) -> Vec<(&'static str, Vec<u8>)> {
         ("mangled", make::mangled(rng, &passing)),
         ("random", make::random_bytes(rng)),
         ("empty", Vec::new()),
-    ]
+    ];
+    if record::is_described(2) {
+        let (a, b) = make::joinable_lists(rng);
+        made.push(("list-a", record::write(&a)));
+        made.push(("list-b", record::write(&b)));
+        made.push(("list-broken", record::write(&make::breaking_list(rng))));
+        made.push(("list-full", record::write(&make::staying_list(rng, 64, 32, record::MOST_LISTED))));
+    }
+    made
 }
 
 fn main() {

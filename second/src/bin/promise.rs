@@ -1,5 +1,6 @@
 //! Tries the promise about high inputs by brute force: on small passing parts, on joined ones and on racks of three,
-//! where no counterexample may come up, and on parts that break a rule, where some must.
+//! where no counterexample may come up, and on parts that break a rule, where some must. It is asked for each observer of
+//! a part.
 //!
 //! `promise [--seed N]`
 
@@ -9,7 +10,7 @@ use second::check;
 use second::examples;
 use second::join;
 use second::make::{self, Wanted};
-use second::record::{self, Part};
+use second::record::{self, is_described, Part, View, MOST_LISTED};
 use second::rng::Rng;
 use second::traces::{self, Bounds, Counterexample};
 use second::wrong;
@@ -31,36 +32,36 @@ const BOUNDS: [Bounds; 6] = [
     Bounds { trace_length: 2, list_length: 1 },
 ];
 
-fn high_inputs(part: &Part) -> Vec<usize> {
-    (0..part.event_count()).filter(|&e| part.is_input(e) && part.is_high(e)).collect()
+fn high_inputs(view: View) -> Vec<usize> {
+    (0..view.event_count()).filter(|&e| view.is_input(e) && view.is_high(e)).collect()
 }
 
-fn low_event_count(part: &Part) -> usize {
-    (0..part.event_count()).filter(|&e| traces::is_low_event(part, e)).count()
+fn low_event_count(view: View) -> usize {
+    (0..view.event_count()).filter(|&e| traces::is_low_event(view, e)).count()
 }
 
 /// Has the trace an internal event of a low level?
-fn has_low_internal(part: &Part, trace: &[usize]) -> bool {
-    trace.iter().any(|&e| part.is_internal(e) && part.is_low(e))
+fn has_low_internal(view: View, trace: &[usize]) -> bool {
+    trace.iter().any(|&e| view.is_internal(e) && view.is_low(e))
 }
 
 /// About how many choices of lists the bounded search would try.
-fn estimate(part: &Part, bounds: Bounds) -> f64 {
-    let lists = traces::lists_up_to(&high_inputs(part), bounds.list_length).len();
+fn estimate(view: View, bounds: Bounds) -> f64 {
+    let lists = traces::lists_up_to(&high_inputs(view), bounds.list_length).len();
     let mut sum = 0.0;
     let mut words = 1.0;
     let mut choices = lists as f64;
     for _ in 0..=bounds.trace_length {
         sum += words * choices;
-        words *= low_event_count(part) as f64;
+        words *= low_event_count(view) as f64;
         choices *= lists as f64;
     }
     sum
 }
 
-fn bounds_for(part: &Part) -> Bounds {
+fn bounds_for(view: View) -> Bounds {
     for bounds in BOUNDS {
-        if estimate(part, bounds) <= MOST_CHOICES {
+        if estimate(view, bounds) <= MOST_CHOICES {
             return bounds;
         }
     }
@@ -70,27 +71,37 @@ fn bounds_for(part: &Part) -> Bounds {
 /// The kinds of passing parts that are tried.
 const PREFIXES: [&str; 3] = ["part", "joined", "rack of three"];
 
+/// Those with several observers, for each of whom the promise is asked; none before such parts are described.
+fn prefixes_of_lists() -> &'static [&'static str] {
+    if is_described(2) {
+        &["part of several observers", "joined of several observers"]
+    } else {
+        &[]
+    }
+}
+
 const MATCHING: &str = "matching traces checked step by step";
 const SHARED_LOW: &str = "joined: a shared low event in a matching trace";
+const OTHERS: &str = "passes for the first of several observers: counterexample found for another";
 const WITH_BROKEN: &str = "joined with a part that breaks a rule, the other passing: counterexample found";
 
-/// Whether a part passes by some reading.
-type Passes = fn(&Part) -> bool;
+/// Whether a part passes by some reading for its one observer.
+type Passes = fn(View) -> bool;
 
 /// The readings by which parts pass that do not keep the promise.
 const WRONG_READINGS: [(&str, Passes); 5] = [
     ("high inputs quiet", wrong::passes_with_high_inputs_quiet),
     ("incomparable is low", wrong::passes_with_incomparable_low),
     ("rank alone", wrong::passes_by_rank_alone),
-    ("low internal events under no rule", |part| reading("all quiet, low ones under no rule").passes(part)),
-    ("internal events under no rule", |part| reading("all quiet, none under a rule").passes(part)),
+    ("low internal events under no rule", |view| reading("all quiet, low ones under no rule").passes(&view)),
+    ("internal events under no rule", |view| reading("all quiet, none under a rule").passes(&view)),
 ];
 
 /// The categories of passing parts with this prefix, each with its least number. The last one is document 01's reading,
 /// by which a trace has low internal events too: parts that pass need not keep the promise about them.
 fn kinds(prefix: &str) -> [(String, usize); 5] {
     let name = |kind: &str| format!("{}: {}", prefix, kind);
-    let least = if prefix == "rack of three" { 200 } else { 1000 };
+    let least = if prefix == "part" || prefix == "joined" { 1000 } else { 200 };
     let least_misread = if prefix == "part" { 200 } else { 20 };
     [
         (name("all"), least),
@@ -99,6 +110,10 @@ fn kinds(prefix: &str) -> [(String, usize); 5] {
         (name("the same, and low internal events within three steps"), 200),
         (name("counterexample found if low internal events are low events of a trace"), least_misread),
     ]
+}
+
+fn observer_name(prefix: &str, i: usize) -> String {
+    format!("{}: observer {}", prefix, i)
 }
 
 /// The names for a rule: parts that break it, and those of them with a counterexample.
@@ -113,8 +128,16 @@ fn misread_name(reading: &str) -> String {
 /// Every category with its least number.
 fn needs() -> Tally {
     let mut tally = Tally::new();
-    for (name, least) in PREFIXES.into_iter().flat_map(kinds) {
+    for (name, least) in PREFIXES.iter().chain(prefixes_of_lists()).flat_map(|prefix| kinds(prefix)) {
         tally.need(&name, least);
+    }
+    for prefix in prefixes_of_lists() {
+        for i in 1..=MOST_LISTED {
+            tally.need(&observer_name(prefix, i), 200);
+        }
+    }
+    if is_described(2) {
+        tally.need(OTHERS, 20);
     }
     tally.need("joined: a shared high event", 200);
     tally.need("joined: a shared low event", 200);
@@ -143,9 +166,9 @@ struct Run {
     undecided: usize,
 }
 
-fn report(part: &Part, found: &Counterexample) -> ! {
+fn report(view: View, found: &Counterexample) -> ! {
     println!("counterexample to the promise on a part that passes");
-    println!("record {}", second::replay::hex(&record::write(part)));
+    println!("record {}, observer {}", second::replay::hex(&record::write(&view)), view.level());
     println!("trace (event numbers) {:?}", found.trace);
     println!("lists (event numbers) {:?}", found.lists);
     exit(1);
@@ -154,45 +177,45 @@ fn report(part: &Part, found: &Counterexample) -> ! {
 impl Run {
     /// A passing part: both searches must come back without a counterexample, and a matching trace is checked
     /// step by step for as many choices as are to be tried. These matching traces are given back.
-    fn must_keep(&mut self, part: &Part, tries: usize) -> Vec<Vec<usize>> {
-        assert!(check::passes(part));
-        let outcome = traces::search(part, bounds_for(part));
+    fn must_keep(&mut self, view: View, tries: usize) -> Vec<Vec<usize>> {
+        assert!(check::break_for(view).is_none());
+        let outcome = traces::search(view, bounds_for(view));
         self.choices += outcome.choices;
         if let Some(found) = outcome.counterexample {
-            report(part, &found);
+            report(view, &found);
         }
-        match traces::decide(part, MOST_PAIRS) {
-            Some(Err(found)) => report(part, &found),
+        match traces::decide(view, MOST_PAIRS) {
+            Some(Err(found)) => report(view, &found),
             Some(Ok(_)) => self.decided += 1,
             None => self.undecided += 1,
         }
-        let all = traces::traces_up_to(part, 3);
+        let all = traces::traces_up_to(&view, 3);
         let mut found = Vec::new();
         for _ in 0..tries {
             let trace = &all[self.rng.below(all.len())];
-            found.push(self.must_match(part, trace));
+            found.push(self.must_match(view, trace));
         }
         found
     }
 
     /// A matching trace for a given one and some choice of lists.
-    fn must_match(&mut self, part: &Part, given: &[usize]) -> Vec<usize> {
-        let low = traces::low_events(part, given);
-        let lists: Vec<Vec<usize>> = (0..low.len() + 1).map(|_| self.some_high_inputs(part)).collect();
-        match traces::matching_trace(part, &low, &lists) {
+    fn must_match(&mut self, view: View, given: &[usize]) -> Vec<usize> {
+        let low = traces::low_events(view, given);
+        let lists: Vec<Vec<usize>> = (0..low.len() + 1).map(|_| self.some_high_inputs(view)).collect();
+        match traces::matching_trace(view, &low, &lists) {
             Some(matching) => {
-                assert!(traces::is_matching_trace(part, &matching, &low, &lists));
-                assert!(traces::matching_trace_exists(part, &low, &lists));
-                self.count_matching(part, given, &matching);
+                assert!(traces::is_matching_trace(view, &matching, &low, &lists));
+                assert!(traces::matching_trace_exists(view, &low, &lists));
+                self.count_matching(view, given, &matching);
                 matching
             }
-            None => report(part, &Counterexample { trace: given.to_vec(), lists }),
+            None => report(view, &Counterexample { trace: given.to_vec(), lists }),
         }
     }
 
     /// Up to four high inputs.
-    fn some_high_inputs(&mut self, part: &Part) -> Vec<usize> {
-        let high_inputs = high_inputs(part);
+    fn some_high_inputs(&mut self, view: View) -> Vec<usize> {
+        let high_inputs = high_inputs(view);
         if high_inputs.is_empty() {
             return Vec::new();
         }
@@ -200,9 +223,9 @@ impl Run {
     }
 
     /// Counts a given trace and a matching one.
-    fn count_matching(&mut self, part: &Part, given: &[usize], matching: &[usize]) {
+    fn count_matching(&mut self, view: View, given: &[usize], matching: &[usize]) {
         self.tally.count(MATCHING);
-        let whose = match (has_low_internal(part, given), has_low_internal(part, matching)) {
+        let whose = match (has_low_internal(view, given), has_low_internal(view, matching)) {
             (true, true) => "both",
             (true, false) => "the given one alone",
             (false, true) => "the matching one alone",
@@ -212,20 +235,21 @@ impl Run {
     }
 
     /// Counts a passing part under the prefix by what makes it worth trying.
-    fn count_kind(&mut self, prefix: &str, part: &Part) {
+    fn count_kind(&mut self, prefix: &str, view: View) {
         let [all, low_events, quiet_steps, low_internal, misread] = kinds(prefix).map(|(name, _)| name);
-        let traces = traces::traces_up_to(part, 3);
+        let traces = traces::traces_up_to(&view, 3);
         self.tally.count(&all);
-        if !high_inputs(part).is_empty() && traces.iter().any(|trace| !traces::low_events(part, trace).is_empty()) {
+        if !high_inputs(view).is_empty() && traces.iter().any(|trace| !traces::low_events(view, trace).is_empty()) {
             self.tally.count(&low_events);
-            if !wrong::passes_without_quiet_steps(part) {
+            if !wrong::passes_without_quiet_steps(view) {
                 self.tally.count(&quiet_steps);
             }
-            if traces.iter().any(|trace| has_low_internal(part, trace)) {
+            if traces.iter().any(|trace| has_low_internal(view, trace)) {
                 self.tally.count(&low_internal);
             }
         }
-        if self.tally.lacks(&misread) && breaks_promise(&as_outputs(part)) {
+        let changed = as_outputs(&view);
+        if self.tally.lacks(&misread) && breaks_promise(View { part: &changed, observer: view.observer }) {
             self.tally.count(&misread);
         }
     }
@@ -243,8 +267,8 @@ impl Run {
             if self.rng.chance(1, 2) {
                 part = make::with_quiet_events_internal(&mut self.rng, &part);
             }
-            self.must_keep(&part, 40);
-            self.count_kind("part", &part);
+            self.must_keep(part.view(0), 40);
+            self.count_kind("part", part.view(0));
         }
     }
 
@@ -256,21 +280,65 @@ impl Run {
             }
             let (a, b) = make::small_joinable_pair(&mut self.rng);
             let first = joined(&a, &b).unwrap();
-            let matching = self.must_keep(&first, 10);
-            self.count_kind("joined", &first);
-            self.count_shared(&a, &b, &first, &matching);
+            let matching = self.must_keep(first.view(0), 10);
+            self.count_kind("joined", first.view(0));
+            self.count_shared(&a, &b, first.view(0), &matching);
             let third = make::third_for(&mut self.rng, &first);
             if first.state_count() * third.state_count() <= 12 {
                 if let Some(rack) = joined(&first, &third) {
-                    self.must_keep(&rack, 5);
-                    self.count_kind("rack of three", &rack);
+                    self.must_keep(rack.view(0), 5);
+                    self.count_kind("rack of three", rack.view(0));
                 }
             }
         }
     }
 
+    /// Parts for several observers, alone and joined: the promise is kept for each of them.
+    fn parts_of_lists(&mut self) {
+        for &prefix in prefixes_of_lists() {
+            for _ in 0..20_000 {
+                let lacks_observers = (1..=MOST_LISTED).any(|i| self.tally.lacks(&observer_name(prefix, i)));
+                if !self.lacks_kinds(prefix) && !lacks_observers {
+                    break;
+                }
+                let part = self.list_for(prefix);
+                if part.state_count() > 6 {
+                    continue;
+                }
+                for (i, view) in part.views().into_iter().enumerate() {
+                    self.must_keep(view, 5);
+                    self.count_kind(prefix, view);
+                    self.tally.count(&observer_name(prefix, i + 1));
+                }
+            }
+        }
+    }
+
+    /// Why a part must pass for each of its observers.
+    fn first_observer_alone(&mut self) {
+        for _ in 0..20_000 {
+            if !self.tally.lacks(OTHERS) {
+                break;
+            }
+            let part = make::small_list(&mut self.rng);
+            let part = make::changed_steps(&mut self.rng, &part);
+            let passes_for_first = check::break_for(part.view(0)).is_none();
+            if passes_for_first && part.views().into_iter().skip(1).any(breaks_promise) {
+                self.tally.count(OTHERS);
+            }
+        }
+    }
+
+    fn list_for(&mut self, prefix: &str) -> Part {
+        if prefix == "part of several observers" {
+            return make::small_list(&mut self.rng);
+        }
+        let (a, b) = make::small_joinable_lists(&mut self.rng);
+        joined(&a, &b).unwrap()
+    }
+
     /// Counts a joined part by its shared events.
-    fn count_shared(&mut self, a: &Part, b: &Part, joined: &Part, matching: &[Vec<usize>]) {
+    fn count_shared(&mut self, a: &Part, b: &Part, joined: View, matching: &[Vec<usize>]) {
         if shares(a, b, true) {
             self.tally.count("joined: a shared high event");
         }
@@ -302,7 +370,7 @@ impl Run {
             let (tried, found) = rule_names(broken.rule);
             if self.tally.lacks(&tried) || self.tally.lacks(&found) {
                 self.tally.count(&tried);
-                if breaks_promise(part) {
+                if breaks_promise(part.view(0)) {
                     self.tally.count(&found);
                 }
             }
@@ -327,7 +395,7 @@ impl Run {
         }
         for (reading, passes) in WRONG_READINGS {
             let name = misread_name(reading);
-            if self.tally.lacks(&name) && passes(part) && breaks_promise(part) {
+            if self.tally.lacks(&name) && passes(part.view(0)) && breaks_promise(part.view(0)) {
                 self.tally.count(&name);
             }
         }
@@ -341,25 +409,25 @@ impl Run {
             }
             let (a, b) = make::small_joinable_pair(&mut self.rng);
             let b = make::changed_steps(&mut self.rng, &b);
-            if !check::passes(&b) && breaks_promise(&joined(&a, &b).unwrap()) {
+            if !check::passes(&b) && breaks_promise(joined(&a, &b).unwrap().view(0)) {
                 self.tally.count(WITH_BROKEN);
             }
         }
         let parity = joined(&examples::parity_with_stop_as_output(), &examples::parity_with_stop_as_input()).unwrap();
-        assert!(breaks_promise(&parity));
+        assert!(breaks_promise(parity.view(0)));
     }
 }
 
 /// Is there a counterexample? What is found is checked.
-fn breaks_promise(part: &Part) -> bool {
-    let bounded = traces::search(part, bounds_for(part)).counterexample;
-    let decided = traces::decide(part, MOST_PAIRS);
+fn breaks_promise(view: View) -> bool {
+    let bounded = traces::search(view, bounds_for(view)).counterexample;
+    let decided = traces::decide(view, MOST_PAIRS);
     if let Some(found) = &bounded {
-        assert!(traces::is_counterexample(part, found));
+        assert!(traces::is_counterexample(view, found));
         assert!(!matches!(decided, Some(Ok(_))));
     }
     if let Some(Err(found)) = &decided {
-        assert!(traces::is_counterexample(part, found));
+        assert!(traces::is_counterexample(view, found));
         return true;
     }
     bounded.is_some()
@@ -375,7 +443,7 @@ fn joined(a: &Part, b: &Part) -> Option<Part> {
 fn shares(a: &Part, b: &Part, high: bool) -> bool {
     join::merged_entries(a, b)
         .iter()
-        .any(|entry| entry.from_b.is_some() && matches!(entry.from_a, Some(e) if a.is_high(e) == high))
+        .any(|entry| entry.from_b.is_some() && matches!(entry.from_a, Some(e) if a.view(0).is_high(e) == high))
 }
 
 /// A small part that is meant to break a rule.
@@ -425,6 +493,8 @@ fn main() {
     run.broken_parts();
     run.misread_parts();
     run.joined_with_broken_parts();
+    run.parts_of_lists();
+    run.first_observer_alone();
 
     run.tally.print();
     println!("choices of lists tried on passing parts: {}", run.choices);

@@ -123,7 +123,7 @@ pub fn breaking(rng: &mut Rng, wanted: Wanted, n: usize, m: usize) -> Option<Par
             part.steps[e][s][t] = true;
             let mut quiet_events = Vec::new();
             for q in 0..m {
-                if part.is_quiet(q) {
+                if part.view(0).is_quiet(q) {
                     quiet_events.push(q);
                 }
             }

@@ -1,23 +1,23 @@
-//! Makes records that are meant to be refused: damaged for 1 to 7, 16 and 8, mangled, random bytes.
+//! Makes records that are meant to be refused: damaged for each refusal of a record, mangled, random bytes.
 
 use super::breaks::changed_steps;
 use super::levels::bad_level;
+use super::lists::{damage_list, mislabel_list};
 use super::passing::any_passing;
 use crate::record::{
-    self, class_at, entry_at, level_at, row_at, u32_at, EVENT_COUNT_AT, HEADER, OBSERVER_AT, ORDER, START_AT,
-    STATE_COUNT_AT,
+    self, column, observer_levels, order, u32_at, Layout, EVENT_COUNT_AT, HEADER, START_AT, STATE_COUNT_AT,
 };
 use crate::rng::Rng;
 
-/// Damages a well-formed record towards one of the refusals 1 to 7, 16 and 8. Where the record has no place for it (no
-/// events for 7, say), it stays as it is.
+/// Damages a well-formed record towards one of the refusals of a record. Where the record has no place for it (no events
+/// for 7, say, or no list of observers for 20), it stays as it is.
 pub fn damage(rng: &mut Rng, bytes: &mut Vec<u8>, refusal: u32) {
     if bytes.len() <= HEADER + 4 {
         // An earlier damage has already cut it.
         return;
     }
-    let n = bytes[STATE_COUNT_AT] as usize;
-    let m = bytes[EVENT_COUNT_AT] as usize;
+    let layout = Layout::of(bytes);
+    let (n, m) = (layout.n, layout.m);
     match refusal {
         1 => bytes.truncate(rng.below(6)),
         2 => match rng.below(5) {
@@ -81,17 +81,10 @@ pub fn damage(rng: &mut Rng, bytes: &mut Vec<u8>, refusal: u32) {
             2 => bytes[STATE_COUNT_AT] = if n < 64 { n as u8 + 1 } else { 63 },
             _ => bytes[EVENT_COUNT_AT] = if m < 32 { m as u8 + 1 } else { 31 },
         },
+        20 => damage_list(rng, bytes),
         6 => {
-            let s = rng.pick(&[0, n / 2, n - 1]);
-            if s == 0 {
-                bytes[class_at(0)] = rng.pick(&[1, 2, 255]);
-            } else {
-                let mut largest_before = 0;
-                for before in 0..s {
-                    largest_before = largest_before.max(bytes[class_at(before)]);
-                }
-                bytes[class_at(s)] = if rng.chance(1, 2) { largest_before + 2 } else { 255 };
-            }
+            let i = if layout.columns() > 1 { rng.below(layout.columns()) } else { 0 };
+            misnumber(rng, bytes, i);
         }
         7 => {
             if m >= 2 && rng.chance(1, 2) {
@@ -99,20 +92,21 @@ pub fn damage(rng: &mut Rng, bytes: &mut Vec<u8>, refusal: u32) {
                 // Two neighbours get the same identifier, or change places.
                 let changes_places = rng.chance(1, 2);
                 for i in 0..2 {
-                    let before = bytes[entry_at(n, e - 1) + i];
+                    let before = bytes[layout.entry_at(e - 1) + i];
                     if changes_places {
-                        bytes[entry_at(n, e - 1) + i] = bytes[entry_at(n, e) + i];
+                        bytes[layout.entry_at(e - 1) + i] = bytes[layout.entry_at(e) + i];
                     }
-                    bytes[entry_at(n, e) + i] = before;
+                    bytes[layout.entry_at(e) + i] = before;
                 }
             } else if m >= 1 {
                 let e = rng.pick(&[0, m / 2, m - 1]);
-                bytes[entry_at(n, e) + 2] = rng.pick(&[3, 4, 128, 255]);
+                bytes[layout.entry_at(e) + 2] = rng.pick(&[3, 4, 128, 255]);
             }
         }
+        16 if layout.observers > 1 && rng.chance(1, 2) => mislabel_list(rng, bytes),
         16 => {
             let whose = rng.pick(&[0, 1, m / 2 + 1, m]).min(m);
-            let level = bad_level(rng, bytes[OBSERVER_AT]);
+            let level = bad_level(rng, observer_levels(bytes)[0]);
             label(bytes, whose, level);
         }
         _ => {
@@ -120,19 +114,36 @@ pub fn damage(rng: &mut Rng, bytes: &mut Vec<u8>, refusal: u32) {
                 let e = rng.pick(&[0, m / 2, m - 1]);
                 let s = rng.pick(&[0, n / 2, n - 1]);
                 let bit = if rng.chance(1, 3) { rng.range(n, 63) } else { rng.pick(&[n, 63]) };
-                bytes[row_at(n, m, e, s) + bit / 8] |= 1 << (bit % 8);
+                bytes[layout.row_at(e, s) + bit / 8] |= 1 << (bit % 8);
             }
         }
     }
 }
 
-/// Gives a level to the observer, which is number 0, or to an event, from number 1 on.
+/// Damages one class column towards refusal 6.
+pub fn misnumber(rng: &mut Rng, bytes: &mut [u8], i: usize) {
+    let layout = Layout::of(bytes);
+    let s = rng.pick(&[0, layout.n / 2, layout.n - 1]);
+    bytes[layout.class_at(i, s)] = if s == 0 {
+        rng.pick(&[1, 2, 255])
+    } else {
+        let largest_before = *column(bytes, i)[..s].iter().max().unwrap();
+        if rng.chance(1, 2) {
+            largest_before + 2
+        } else {
+            255
+        }
+    }
+}
+
+/// Gives a level to the first observer, which is number 0, or to an event, from number 1 on.
 pub fn label(bytes: &mut [u8], whose: usize, level: u8) {
-    let at = if whose == 0 { OBSERVER_AT } else { level_at(bytes[STATE_COUNT_AT] as usize, whose - 1) };
+    let layout = Layout::of(bytes);
+    let at = if whose == 0 { layout.observer_at(0) } else { layout.level_at(whose - 1) };
     bytes[at] = level;
 }
 
-fn set_length(bytes: &mut [u8], length: u32) {
+pub(super) fn set_length(bytes: &mut [u8], length: u32) {
     bytes[..4].copy_from_slice(&length.to_le_bytes());
 }
 
@@ -162,6 +173,14 @@ pub fn mangled(rng: &mut Rng, bytes: &[u8]) -> Vec<u8> {
     mangled
 }
 
+/// A kind described so far; where there is one alone, nothing is drawn.
+fn any_kind(rng: &mut Rng) -> u16 {
+    match record::kinds() {
+        [only] => *only,
+        kinds => rng.pick(kinds),
+    }
+}
+
 /// Random bytes, now and then with a length field and a kind that fit.
 pub fn random_bytes(rng: &mut Rng) -> Vec<u8> {
     let count = rng.below(80);
@@ -169,7 +188,7 @@ pub fn random_bytes(rng: &mut Rng) -> Vec<u8> {
     if bytes.len() >= 6 && rng.chance(1, 2) {
         let length = bytes.len() - HEADER;
         set_length(&mut bytes, length as u32);
-        bytes[4] = 1;
+        bytes[4] = any_kind(rng) as u8;
         bytes[5] = 0;
     }
     bytes
@@ -181,7 +200,7 @@ pub fn bad_record(rng: &mut Rng) -> Vec<u8> {
     let mut bytes = record::write(&part);
     match rng.below(4) {
         0 => {
-            let refusal = rng.pick(&ORDER);
+            let refusal = rng.pick(&order());
             damage(rng, &mut bytes, refusal);
             bytes
         }
@@ -195,17 +214,31 @@ pub fn bad_record(rng: &mut Rng) -> Vec<u8> {
 mod tests {
     use super::*;
     use crate::check::{self, Verdict};
-    use crate::make::passing_of_size;
+    use crate::make::{list_of_size, passing_of_size};
+    use crate::record::described::describe_lists;
+    use crate::record::Part;
 
+    /// Of the refusals, 20 alone needs several observers.
     #[test]
     fn damages_are_refused_as_meant() {
-        let mut rng = Rng::new(53);
-        for refusal in ORDER {
+        let refusals: Vec<u32> = order().into_iter().filter(|&refusal| refusal != 20).collect();
+        are_refused_as_meant(53, &refusals, passing_of_size);
+    }
+
+    #[test]
+    fn damages_of_lists_are_refused_as_meant() {
+        let _before = describe_lists();
+        are_refused_as_meant(68, &order(), |rng, n, m| list_of_size(rng, n, m, n.clamp(2, 4)));
+    }
+
+    fn are_refused_as_meant(seed: u64, refusals: &[u32], maker: fn(&mut Rng, usize, usize) -> Part) {
+        let mut rng = Rng::new(seed);
+        for &refusal in refusals {
             let mut as_meant = 0;
             for _ in 0..100 {
                 let n = rng.range(2, 6);
                 let m = rng.range(2, 5);
-                let mut bytes = record::write(&passing_of_size(&mut rng, n, m));
+                let mut bytes = record::write(&maker(&mut rng, n, m));
                 damage(&mut rng, &mut bytes, refusal);
                 if check::check(&bytes) == Verdict::Refused(refusal) {
                     as_meant += 1;

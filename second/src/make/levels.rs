@@ -168,10 +168,10 @@ mod tests {
             for role in ROLES {
                 let events = vec![event(&mut rng, observer, 7, role)];
                 let part = Part::without_steps(observer, 0, vec![0], events);
-                assert_eq!(part.is_quiet(0), QUIET_ROLES.contains(&role));
-                assert_eq!(part.is_low_output(0), role == Role::LowOutput);
+                assert_eq!(part.view(0).is_quiet(0), QUIET_ROLES.contains(&role));
+                assert_eq!(part.view(0).is_low_output(0), role == Role::LowOutput);
                 let is_low = matches!(role, Role::LowInput | Role::LowOutput | Role::LowInternal);
-                assert_eq!(part.is_low(0), is_low);
+                assert_eq!(part.view(0).is_low(0), is_low);
             }
         }
     }

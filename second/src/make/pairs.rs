@@ -136,7 +136,7 @@ pub fn regrouped(rng: &mut Rng, part: &Part) -> Part {
     for s in 0..part.state_count() {
         classes.push(s as u8);
     }
-    passing_with(rng, part.observer, &part.events, &classes, LITTLE_QUIET)
+    passing_with(rng, part.observers[0].level, &part.events, &classes, LITTLE_QUIET)
 }
 
 /// Gives an event another identifier; an event that already had it is dropped.
@@ -174,13 +174,13 @@ pub fn third_for(rng: &mut Rng, other: &Part) -> Part {
     for identifier in identifiers(rng, 2) {
         if !other.events.iter().any(|known| known.identifier == identifier) {
             let role = rng.pick(&ROLES);
-            events.push(event(rng, other.observer, identifier, role));
+            events.push(event(rng, other.observers[0].level, identifier, role));
         }
     }
     events.sort_by_key(|event| event.identifier);
     let n = rng.range(1, 2);
     let classes = grouping(rng, n, 2);
-    passing_with(rng, other.observer, &events, &classes, SOME_QUIET)
+    passing_with(rng, other.observers[0].level, &events, &classes, SOME_QUIET)
 }
 
 /// Parts that share a bus of identifiers: each has one sender and at most one receiver, now and then a clash.

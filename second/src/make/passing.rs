@@ -39,7 +39,7 @@ pub fn passing_with(rng: &mut Rng, observer: u8, events: &[Event], classes: &[u8
     let mut part = Part::without_steps(observer, start, classes.to_vec(), events.to_vec());
     let mut quiet_events = Vec::new();
     for e in 0..part.event_count() {
-        if part.is_quiet(e) {
+        if part.view(0).is_quiet(e) {
             quiet_events.push(e);
         }
     }
@@ -82,7 +82,7 @@ pub fn passing_with(rng: &mut Rng, observer: u8, events: &[Event], classes: &[u8
     }
 
     for e in 0..part.event_count() {
-        if part.is_input(e) && part.is_high(e) {
+        if part.is_input(e) && part.view(0).is_high(e) {
             for s in 0..n {
                 for _ in 0..rng.range(1, 2) {
                     let t = rng.pick(&members[classes[s] as usize]);
@@ -90,7 +90,7 @@ pub fn passing_with(rng: &mut Rng, observer: u8, events: &[Event], classes: &[u8
                 }
             }
         }
-        if part.is_input(e) && part.is_low(e) {
+        if part.is_input(e) && part.view(0).is_low(e) {
             for class in 0..k {
                 for target in some_classes(rng, k) {
                     for &s in &members[class] {
@@ -102,7 +102,7 @@ pub fn passing_with(rng: &mut Rng, observer: u8, events: &[Event], classes: &[u8
                 }
             }
         }
-        if part.is_low_output(e) {
+        if part.view(0).is_low_output(e) {
             for class in 0..k {
                 if rng.chance(1, 3) {
                     continue;
@@ -244,7 +244,7 @@ mod tests {
         for _ in 0..200 {
             let part = passing_with_quiet_steps(&mut rng);
             assert!(check::passes(&part));
-            if !wrong::passes_without_quiet_steps(&part) {
+            if !wrong::passes_without_quiet_steps(part.view(0)) {
                 matter += 1;
             }
         }

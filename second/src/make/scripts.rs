@@ -1,6 +1,7 @@
 //! Makes lists of calls, and scripts for `replay`.
 
 use super::damages::bad_record;
+use super::lists::{any_list, bus_of_lists};
 use super::pairs::bus;
 use super::passing::any_passing;
 use crate::bench::{self, Call};
@@ -9,8 +10,20 @@ use crate::join;
 use crate::record::{self, push_u32, Part};
 use crate::rng::Rng;
 
+/// Makes a number of parts of one bus, with so many states at most.
+type Bus = fn(&mut Rng, usize, usize) -> Vec<Part>;
+
 /// A random list of calls on parts of one bus.
 pub fn calls(rng: &mut Rng, count: usize) -> Vec<Call> {
+    calls_on(rng, count, bus)
+}
+
+/// The same on parts for several observers.
+pub fn calls_on_lists(rng: &mut Rng, count: usize) -> Vec<Call> {
+    calls_on(rng, count, bus_of_lists)
+}
+
+fn calls_on(rng: &mut Rng, count: usize, bus: Bus) -> Vec<Call> {
     let parts = rng.range(2, 5);
     let pool = bus(rng, parts, 4);
     let mut calls = Vec::new();
@@ -80,6 +93,15 @@ impl Script {
 
 /// A session on parts of one bus: loads, hookups of racks, counts, parts, now and then a clear.
 pub fn session(rng: &mut Rng, capacity: usize, operations: usize) -> Script {
+    session_on(rng, capacity, operations, bus, any_passing)
+}
+
+/// The same on parts for several observers.
+pub fn session_on_lists(rng: &mut Rng, capacity: usize, operations: usize) -> Script {
+    session_on(rng, capacity, operations, bus_of_lists, any_list)
+}
+
+fn session_on(rng: &mut Rng, capacity: usize, operations: usize, bus: Bus, other: fn(&mut Rng) -> Part) -> Script {
     let mut script = Script::new(capacity);
     if rng.chance(1, 4) {
         script.count();
@@ -98,8 +120,7 @@ pub fn session(rng: &mut Rng, capacity: usize, operations: usize) -> Script {
         match rng.below(20) {
             0 => script.load(&bad_record(rng)),
             1 => {
-                let part = any_passing(rng);
-                script.load(&record::write(&part));
+                script.load(&record::write(&other(rng)));
                 held += 1;
             }
             2 => script.count(),

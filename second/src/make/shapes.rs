@@ -130,7 +130,7 @@ pub fn with_quiet_steps(rng: &mut Rng, table: &[Vec<bool>], m: usize) -> Part {
     let mut part = Part::without_steps(observer, start, classes, events);
     let mut quiet_events = Vec::new();
     for e in 0..m {
-        if part.is_quiet(e) {
+        if part.view(0).is_quiet(e) {
             quiet_events.push(e);
         } else {
             let other = rng.pick(&SHAPES);
@@ -161,12 +161,12 @@ fn spread(rng: &mut Rng, part: &mut Part, table: &[Vec<bool>], events: &[usize])
 /// have a step from each state, and where classes differ high inputs stay.
 pub fn passing_shaped(rng: &mut Rng, shape: Shape, n: usize, m: usize, one_class: bool) -> Part {
     let mut part = shaped(rng, shape, n, m);
-    part.classes = if one_class { vec![0; n] } else { (0..n as u8).collect() };
+    part.observers[0].classes = if one_class { vec![0; n] } else { (0..n as u8).collect() };
     for e in 0..m {
-        if part.is_quiet(e) {
+        if part.view(0).is_quiet(e) {
             continue;
         }
-        let stays = part.is_input(e) && part.is_high(e) && !one_class;
+        let stays = part.is_input(e) && part.view(0).is_high(e) && !one_class;
         for s in 0..n {
             if stays {
                 part.steps[e][s] = vec![false; n];
@@ -185,7 +185,7 @@ pub fn shaped_without_inputs(rng: &mut Rng, shape: Shape, n: usize, m: usize) ->
     let mut part = shaped(rng, shape, n, m);
     for e in 0..m {
         if part.is_input(e) {
-            part.events[e] = event(rng, part.observer, part.events[e].identifier, Role::LowOutput);
+            part.events[e] = event(rng, part.observers[0].level, part.events[e].identifier, Role::LowOutput);
         }
     }
     part
@@ -195,9 +195,9 @@ pub fn shaped_without_inputs(rng: &mut Rng, shape: Shape, n: usize, m: usize) ->
 pub fn with_quiet_events_internal(rng: &mut Rng, part: &Part) -> Part {
     let mut changed = part.clone();
     for e in 0..part.event_count() {
-        if part.is_quiet(e) && rng.chance(3, 4) {
+        if part.view(0).is_quiet(e) && rng.chance(3, 4) {
             let role = rng.pick(&[Role::LowInternal, Role::HighInternal]);
-            changed.events[e] = event(rng, part.observer, part.events[e].identifier, role);
+            changed.events[e] = event(rng, part.observers[0].level, part.events[e].identifier, role);
         }
     }
     changed
@@ -207,12 +207,12 @@ pub fn with_quiet_events_internal(rng: &mut Rng, part: &Part) -> Part {
 /// quiet changes with them.
 pub fn with_near_levels(rng: &mut Rng, part: &Part) -> Part {
     let mut changed = part.clone();
-    changed.observer = any_level(rng);
+    changed.observers[0].level = any_level(rng);
     for e in 0..part.event_count() {
         changed.events[e].level = match rng.below(4) {
-            0 => changed.observer,
+            0 => changed.observers[0].level,
             1 => any_level(rng),
-            _ => near_level(rng, changed.observer),
+            _ => near_level(rng, changed.observers[0].level),
         };
     }
     changed
@@ -231,7 +231,7 @@ mod tests {
             let m = rng.range(1, 8);
             let table = steps_of_shape(&mut rng, SHAPES[round % SHAPES.len()], n);
             let part = with_quiet_steps(&mut rng, &table, m);
-            assert_eq!(check::quiet_steps(&part), table);
+            assert_eq!(check::quiet_steps(part.view(0)), table);
         }
     }
 
@@ -268,7 +268,8 @@ mod tests {
         let mut spread = 0;
         for _ in 0..100 {
             let part = shaped(&mut rng, Shape::Line, 12, 6);
-            let events = (0..6).filter(|&e| part.is_quiet(e) && part.steps[e].iter().any(|row| row.contains(&true)));
+            let events =
+                (0..6).filter(|&e| part.view(0).is_quiet(e) && part.steps[e].iter().any(|row| row.contains(&true)));
             if events.count() >= 3 {
                 spread += 1;
             }
@@ -282,7 +283,7 @@ mod tests {
         for _ in 0..100 {
             let part = shaped(&mut rng, Shape::Some, 8, 5);
             let other = with_quiet_events_internal(&mut rng, &part);
-            assert_eq!(check::quiet_steps(&part), check::quiet_steps(&other));
+            assert_eq!(check::quiet_steps(part.view(0)), check::quiet_steps(other.view(0)));
             assert_eq!(check::first_break(&part), check::first_break(&other));
         }
     }
@@ -294,7 +295,7 @@ mod tests {
         for _ in 0..100 {
             let part = shaped(&mut rng, Shape::Some, 8, 5);
             let other = with_near_levels(&mut rng, &part);
-            if check::quiet_steps(&part) != check::quiet_steps(&other) {
+            if check::quiet_steps(part.view(0)) != check::quiet_steps(other.view(0)) {
                 changed += 1;
             }
         }

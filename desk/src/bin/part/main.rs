@@ -2,35 +2,18 @@
 
 mod arguments;
 mod files;
+mod help;
 
 use std::io::{stderr, Write};
 use std::process::exit;
 
 use arguments::{Arguments, Command};
 use desk::diff::differences;
-use desk::draw::draw;
-use desk::{record, verdict, writer};
+use desk::draw::{draw, shown};
+use desk::kinds::KINDS;
+use desk::{reader, record, verdict, writer};
 use files::{Trouble, CONTENT, USAGE};
-
-const HELP: &str = "\
-part: the desk tool for tables of parts
-
-usage: part record FILE.table [-o OUT]                  text to record bytes
-       part text FILE.part [-o OUT]                     record to canonical text
-       part diff A B                                    the differences of two parts
-       part draw FILE [--verdict \"LINE\"] [-o OUT]       a part as Graphviz DOT
-
-Without -o the result goes to standard output; OUT may not be the file that is read.
-diff and draw take a record (.part) or a table (.table). LINE is the line that the
-program verdict printed for the same part; draw marks the break that it names.
-
-This tool is outside the proved core and never decides a verdict: ask the program
-verdict. The text form is described in desk/README.md.
-
-exit status: 0 done, or the same part
-             1 the file or LINE is not as expected, or the parts differ
-             2 usage, a file that cannot be read or written; diff: any trouble
-";
+use help::help;
 
 fn record_command(arguments: &Arguments) -> Result<i32, Trouble> {
     let table = files::table(&arguments.files[0])?;
@@ -56,28 +39,38 @@ fn diff_command(arguments: &Arguments) -> Result<i32, Trouble> {
     Ok(1)
 }
 
+/// Reads the word behind an option; what is wrong with it is told with the option.
+fn option<T>(
+    word: &Option<String>,
+    name: &str,
+    read: impl Fn(&str) -> Result<T, String>,
+) -> Result<Option<T>, Trouble> {
+    let read = word.as_deref().map(read).transpose();
+    read.map_err(|why| Trouble::new(CONTENT, format!("part: {name}: {why}")))
+}
+
 fn draw_command(arguments: &Arguments) -> Result<i32, Trouble> {
     let file = &arguments.files[0];
     let table = files::either(file)?;
-    let given = match &arguments.verdict {
+    let not_about = |why: String| Trouble::new(CONTENT, format!("{}: {why}", file.display()));
+    let given = option(&arguments.verdict, "--verdict", verdict::read)?;
+    let concerned = match &given {
+        Some(given) => verdict::fits(&table.part, given).map_err(not_about)?,
         None => None,
-        Some(line) => {
-            let given = verdict::read(line).map_err(|why| Trouble::new(CONTENT, format!("part: --verdict: {why}")))?;
-            let fits = verdict::fits(&table.part, &given);
-            fits.map_err(|why| Trouble::new(CONTENT, format!("{}: {why}", file.display())))?;
-            Some(given)
-        }
     };
+    let asked =
+        option(&arguments.observer, "--observer", |level| reader::read_level(level).map_err(|fault| fault.message))?;
+    let observer = shown(&table.part, asked, concerned).map_err(not_about)?;
     let title = file.file_name().unwrap_or(file.as_os_str()).to_string_lossy();
-    files::write(arguments, draw(&table, &title, given.as_ref()).as_bytes())?;
+    files::write(arguments, draw(&table, observer, &title, given.as_ref()).as_bytes())?;
     Ok(0)
 }
 
 fn run() -> Result<i32, Trouble> {
-    let arguments = arguments::read(std::env::args_os().skip(1))
+    let arguments = arguments::read(std::env::args_os().skip(1), KINDS)
         .map_err(|why| Trouble::new(USAGE, format!("part: {why}; part --help tells the usage")))?;
     match arguments.command {
-        Command::Help => files::write(&arguments, HELP.as_bytes()).map(|()| 0),
+        Command::Help => files::write(&arguments, help(KINDS).as_bytes()).map(|()| 0),
         Command::Record => record_command(&arguments),
         Command::Text => text_command(&arguments),
         Command::Diff => diff_command(&arguments).map_err(|trouble| Trouble::new(USAGE, trouble.message)),

@@ -2,6 +2,7 @@
 
 use crate::internal;
 use crate::label;
+use crate::list;
 use crate::product::{self, Lent};
 use crate::report::differ;
 use crate::{all_examples, Comparison, LEAST, LEAST_OF_MAIN, MOST_TRIES};
@@ -9,7 +10,7 @@ use second::cases::{self, Reasons};
 use second::category::{self, Tally};
 use second::check::{self, Verdict};
 use second::make;
-use second::record;
+use second::record::{self, is_described};
 use second::replay::hex;
 
 pub fn need(tally: &mut Tally) {
@@ -26,6 +27,7 @@ pub fn need(tally: &mut Tally) {
     }
     label::need(tally, "check:", LEAST);
     internal::need(tally, "check:", LEAST);
+    list::need(tally, "check:", LEAST);
     tally.need("check: mangled record", LEAST_OF_MAIN);
     tally.need("check: random bytes", LEAST_OF_MAIN);
     tally.need("check: more than 65536 bytes", LEAST);
@@ -68,6 +70,7 @@ impl Comparison {
         }
         self.count_labels("check:", bytes);
         self.count_internal("check:", bytes, verdict);
+        self.count_lists("check:", bytes, verdict);
     }
 
     pub fn all_checks(&mut self) {
@@ -130,6 +133,27 @@ impl Comparison {
         }
         for _ in 0..2 * LEAST {
             self.check_number(&[], Verdict::Refused(1));
+        }
+        for bytes in cases::lists(&mut self.rng, LEAST) {
+            self.check_record(&bytes);
+        }
+        if is_described(2) {
+            self.lists_cut_and_changed();
+        }
+    }
+
+    /// Records of several observers, cut and changed as below, and damaged in two ways.
+    fn lists_cut_and_changed(&mut self) {
+        for _ in 0..5 {
+            let bytes = record::write(&make::list_of_size(&mut self.rng, 2, 2, 3));
+            self.cut_and_changed(&bytes);
+        }
+        for _ in 0..MOST_TRIES / 10 {
+            let (bytes, reasons) = cases::twice_damaged_list(&mut self.rng);
+            self.check_record(&bytes);
+            if check::check(&bytes) == Verdict::Refused(reasons.0) {
+                self.tally.count(&twice_damaged_name(reasons));
+            }
         }
     }
 

@@ -2,14 +2,16 @@
 //! tables, and on joined parts, hookup_explain is compared too.
 
 use crate::label;
+use crate::list;
 use crate::product::{self, Lent};
 use crate::report::differ;
 use crate::{all_examples, Comparison, LEAST, LEAST_OF_MAIN, MOST_TRIES};
 use second::cases;
 use second::category::Tally;
 use second::category_closure::{self, LONGEST};
-use second::category_internal::{self, add_to_a_reach};
-use second::category_join::shared_low_events;
+use second::category_internal;
+use second::category_join::shared_low_event_adds;
+use second::category_list_calls;
 use second::check;
 use second::closure::{self, PIECE};
 use second::examples;
@@ -28,10 +30,14 @@ pub fn need(tally: &mut Tally) {
         let least = if category_closure::is_main(&name) { LEAST_OF_MAIN } else { LEAST };
         tally.need(&format!("closure: {}", name), least);
     }
-    for &earlier in cases::earlier_refusals() {
+    for earlier in cases::earlier_refusals() {
         tally.need(&twice_damaged_name(earlier), LEAST);
     }
     label::need(tally, "closure:", LEAST);
+    list::need(tally, "closure:", LEAST);
+    for name in category_list_calls::closure_names() {
+        tally.need(&format!("closure: {}", name), LEAST);
+    }
     tally.need(UP_TO_3_STATES, 2 + 16 + 512);
     tally.need(OF_4_STATES, 4096);
     tally.need(JOINED, LEAST);
@@ -48,7 +54,7 @@ fn twice_damaged_name(earlier: u32) -> String {
 impl Comparison {
     /// One call of hookup_closure with an output buffer of that length: its number, every byte of the buffer, nothing
     /// written elsewhere.
-    fn close(&mut self, bytes: &[u8], room: usize) {
+    pub fn close(&mut self, bytes: &[u8], room: usize) {
         let before = self.pattern(room);
         let mut expected_out = before.clone();
         let answer = closure::closure(bytes, &mut expected_out);
@@ -79,6 +85,8 @@ impl Comparison {
             self.tally.count(&format!("closure: {}", name));
         }
         self.count_labels("closure:", bytes);
+        self.count_lists("closure:", bytes, verdict);
+        self.count_names("closure:", category_list_calls::of_closure(bytes, room, answer));
         if let Some(judged) = category_internal::judged(bytes, verdict) {
             self.still_passes(bytes, &judged);
         }
@@ -90,7 +98,7 @@ impl Comparison {
         }
     }
 
-    fn close_record(&mut self, bytes: &[u8]) {
+    pub fn close_record(&mut self, bytes: &[u8]) {
         let room = self.room_for_closures(bytes);
         self.close(bytes, room);
     }
@@ -102,7 +110,7 @@ impl Comparison {
     /// A buffer length: just enough, one short, none, one more, some bytes more, or that of 64 states.
     fn room_for_closures(&mut self, bytes: &[u8]) -> usize {
         let needed = match record::read(bytes) {
-            Ok(part) => PIECE * part.state_count(),
+            Ok(part) => closure::length(&part),
             Err(_) => PIECE,
         };
         match self.rng.below(16) {
@@ -138,6 +146,7 @@ impl Comparison {
         self.closures_by_rule();
         self.closures_of_joined_parts();
         self.closures_of_refused_records();
+        self.closures_of_lists();
     }
 
     /// Quiet steps of each shape, in parts of each size; some again for another observer.
@@ -191,9 +200,9 @@ impl Comparison {
             let (a, b) = make::joinable_pair(&mut self.rng);
             let bytes = join::joined_record(&a, &b);
             let joined = record::read(&bytes).unwrap();
-            self.close(&bytes, PIECE * joined.state_count());
+            self.close(&bytes, closure::length(&joined));
             self.explain(&bytes, EXPLANATION);
-            if add_to_a_reach(&joined, &check::quiet_reaches(&joined), &shared_low_events(&a, &b, &joined)) {
+            if shared_low_event_adds(&a, &b, joined.view(0)) {
                 self.tally.count(JOINED);
             }
         }
@@ -211,7 +220,7 @@ impl Comparison {
             self.close_record(&bytes);
         }
         for _ in 0..MOST_TRIES {
-            if !cases::earlier_refusals().iter().any(|&earlier| self.tally.lacks(&twice_damaged_name(earlier))) {
+            if !cases::earlier_refusals().into_iter().any(|earlier| self.tally.lacks(&twice_damaged_name(earlier))) {
                 break;
             }
             let (bytes, (earlier, later)) = cases::twice_damaged(&mut self.rng);

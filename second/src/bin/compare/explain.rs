@@ -3,12 +3,14 @@
 
 use crate::internal;
 use crate::label;
+use crate::list;
 use crate::product::{self, Lent};
 use crate::report::differ;
 use crate::{all_examples, Comparison, LEAST, LEAST_OF_MAIN, MOST_TRIES};
 use second::cases;
 use second::category::Tally;
 use second::category_explain::{self, break_of};
+use second::category_list_calls;
 use second::check::{self, Verdict};
 use second::examples;
 use second::explain::{self, ExplainAnswer, EXPLANATION};
@@ -30,11 +32,15 @@ pub fn need(tally: &mut Tally) {
         let least = if category_explain::is_main(&name) { LEAST_OF_MAIN } else { LEAST };
         tally.need(&format!("explain: {}", name), least);
     }
-    for &earlier in cases::earlier_refusals() {
+    for earlier in cases::earlier_refusals() {
         tally.need(&twice_damaged_name(earlier), LEAST);
     }
     label::need(tally, "explain:", LEAST);
     internal::need(tally, "explain:", LEAST);
+    list::need(tally, "explain:", LEAST);
+    for name in category_list_calls::explain_names() {
+        tally.need(&format!("explain: {}", name), LEAST);
+    }
     tally.need(WITH_EACH_GROUPING, 3 * (2 + 2 * 16 + 5 * 512));
     tally.need(PAIRS_OF_TABLES, 3 * 6 * 16 * 16 * 2);
     tally.need("explain: record cut at each length", LEAST);
@@ -85,7 +91,10 @@ impl Comparison {
             self.tally.count(&format!("explain: {}", name));
         }
         self.count_labels("explain:", bytes);
-        self.count_internal("explain:", bytes, verdict_of(bytes, answer));
+        let verdict = verdict_of(bytes, answer);
+        self.count_internal("explain:", bytes, verdict);
+        self.count_lists("explain:", bytes, verdict);
+        self.count_names("explain:", category_list_calls::of_explain(bytes, answer));
         if lent.is_null() {
             self.tally.count("explain: record at a null pointer");
         }
@@ -130,6 +139,7 @@ impl Comparison {
         self.explanations_of_passing_parts();
         self.explanations_of_broken_parts();
         self.explanations_of_refused_records();
+        self.explanations_of_lists();
     }
 
     /// Every table of quiet steps of up to three states with every grouping, as the steps of one quiet event: a high
@@ -220,7 +230,7 @@ impl Comparison {
         let one_class = self.rng.chance(1, 2);
         let m = self.rng.range(1, 3);
         let mut part = make::passing_shaped(&mut self.rng, Shape::Empty, n, m, one_class);
-        let quiet = (0..m).find(|&e| part.is_quiet(e)).unwrap();
+        let quiet = (0..m).find(|&e| part.view(0).is_quiet(e)).unwrap();
         for _ in 0..self.rng.range(1, n) {
             let s = self.rng.below(n);
             part.steps[quiet][s][s] = true;
@@ -299,7 +309,7 @@ impl Comparison {
             self.explain(&bytes, EXPLANATION);
         }
         for _ in 0..MOST_TRIES {
-            if !cases::earlier_refusals().iter().any(|&earlier| self.tally.lacks(&twice_damaged_name(earlier))) {
+            if !cases::earlier_refusals().into_iter().any(|earlier| self.tally.lacks(&twice_damaged_name(earlier))) {
                 break;
             }
             let (bytes, (earlier, later)) = cases::twice_damaged(&mut self.rng);

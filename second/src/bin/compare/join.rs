@@ -2,21 +2,20 @@
 
 use crate::internal;
 use crate::label;
+use crate::list;
 use crate::product::{self, Lent};
 use crate::report::differ;
 use crate::{all_examples, Comparison, LEAST, LEAST_OF_MAIN};
 use second::cases;
 use second::category::Tally;
 use second::category_join;
+use second::category_list_calls;
 use second::check::{self, Verdict};
 use second::examples;
 use second::join::{self, JoinAnswer, Side};
 use second::make::{self, Clash, PairPlan};
-use second::record::{self, Part};
+use second::record::{self, longest, Part};
 use second::replay::hex;
-
-/// The longest record.
-const LONGEST: usize = 16_586;
 
 pub fn need(tally: &mut Tally) {
     for name in category_join::names() {
@@ -28,6 +27,11 @@ pub fn need(tally: &mut Tally) {
     label::need(tally, "join: B", LEAST);
     internal::need(tally, "join: A", LEAST);
     internal::need(tally, "join: B", LEAST);
+    list::need(tally, "join: A", list::LEAST_OF_SIDES);
+    list::need(tally, "join: B", list::LEAST_OF_SIDES);
+    for name in category_list_calls::join_names() {
+        tally.need(&format!("join: {}", name), LEAST);
+    }
 }
 
 /// Check's verdicts on A and B, by the answer; none on B where A stopped the join.
@@ -42,7 +46,7 @@ fn verdicts_of(answer: JoinAnswer) -> (Verdict, Option<Verdict>) {
 impl Comparison {
     /// One call of hookup_join with an output buffer of that length: its number, every byte of the buffer, nothing
     /// written elsewhere.
-    fn join_pair(&mut self, a: &[u8], b: &[u8], room: usize) {
+    pub fn join_pair(&mut self, a: &[u8], b: &[u8], room: usize) {
         let before = self.pattern(room);
         let mut expected_out = before.clone();
         let answer = join::join(a, b, &mut expected_out);
@@ -77,10 +81,13 @@ impl Comparison {
         let (verdict_a, verdict_b) = verdicts_of(answer);
         self.count_labels("join: A", a);
         self.count_internal("join: A", a, verdict_a);
+        self.count_lists("join: A", a, verdict_a);
         if let Some(verdict) = verdict_b {
             self.count_labels("join: B", b);
             self.count_internal("join: B", b, verdict);
+            self.count_lists("join: B", b, verdict);
         }
+        self.count_names("join:", category_list_calls::of_join(a, b, room, answer));
         if let JoinAnswer::Length(length) = answer {
             self.joined_passes(&inputs, &expected_out[..length]);
         }
@@ -98,7 +105,7 @@ impl Comparison {
         }
     }
 
-    fn join_parts(&mut self, a: &Part, b: &Part) {
+    pub fn join_parts(&mut self, a: &Part, b: &Part) {
         let record_a = record::write(a);
         let record_b = record::write(b);
         let room = self.room_for(&record_a, &record_b);
@@ -107,7 +114,7 @@ impl Comparison {
 
     /// A buffer length: just enough, one short, none, some bytes more, or the longest record's.
     fn room_for(&mut self, a: &[u8], b: &[u8]) -> usize {
-        let mut out = vec![0; LONGEST];
+        let mut out = vec![0; longest()];
         let needed = match join::join(a, b, &mut out) {
             JoinAnswer::Length(length) => length,
             _ => 40,
@@ -119,7 +126,7 @@ impl Comparison {
             3 | 4 => needed,
             5 => needed + 1,
             6 => needed + self.rng.below(300),
-            _ => LONGEST,
+            _ => longest(),
         }
     }
 
@@ -139,7 +146,7 @@ impl Comparison {
         let examples = all_examples();
         for a in &examples {
             for b in &examples {
-                for room in [0, 10, 11, 51, 52, LONGEST] {
+                for room in [0, 10, 11, 51, 52, longest()] {
                     self.join_pair(a, b, room);
                 }
             }
@@ -177,7 +184,7 @@ impl Comparison {
             let (a, b) = make::pair(&mut self.rng, plan);
             if round % 4 == 0 {
                 // The longest joined record there is.
-                self.join_pair(&record::write(&a), &record::write(&b), LONGEST + round % 3);
+                self.join_pair(&record::write(&a), &record::write(&b), longest() + round % 3);
             } else {
                 self.join_parts(&a, &b);
             }
@@ -229,7 +236,7 @@ impl Comparison {
             plan.only_a = 1;
             plan.shared = 1;
             let (a, b) = make::pair(&mut self.rng, plan);
-            let room = if round % 2 == 0 { 0 } else { LONGEST };
+            let room = if round % 2 == 0 { 0 } else { longest() };
             self.join_pair(&record::write(&a), &record::write(&b), room);
         }
         // 64 classes.
@@ -239,7 +246,7 @@ impl Comparison {
             let (mut a, mut b) = make::pair(&mut self.rng, plan);
             a = make::regrouped(&mut self.rng, &a);
             b = make::regrouped(&mut self.rng, &b);
-            let room = LONGEST - self.rng.below(2) * 50;
+            let room = longest() - self.rng.below(2) * 50;
             self.join_pair(&record::write(&a), &record::write(&b), room);
         }
 
@@ -249,7 +256,7 @@ impl Comparison {
         for bytes in &bad {
             let part = make::any_passing(&mut self.rng);
             let good = record::write(&part);
-            let room = self.rng.pick(&[0, 100, LONGEST]);
+            let room = self.rng.pick(&[0, 100, longest()]);
             self.join_pair(bytes, &good, room);
             self.join_pair(&good, bytes, room);
             let other = bad[self.rng.below(bad.len())].clone();
@@ -260,7 +267,7 @@ impl Comparison {
         records.extend(cases::internal(&mut self.rng, LEAST));
         for bytes in records {
             let good = record::write(&make::any_passing(&mut self.rng));
-            let room = self.rng.pick(&[0, 100, LONGEST]);
+            let room = self.rng.pick(&[0, 100, longest()]);
             self.join_pair(&bytes, &good, room);
             self.join_pair(&good, &bytes, room);
         }
@@ -270,18 +277,19 @@ impl Comparison {
             let room = self.rng.below(200);
             self.join_pair(&a, &b, room);
         }
+        self.joins_of_lists();
     }
 
     /// Document 01's examples of size.
     fn join_examples_of_size(&mut self) {
         let z = examples::z();
         let with_64 = examples::without_events(64);
-        self.join_pair(&with_64, &z, LONGEST);
-        self.join_pair(&z, &with_64, LONGEST);
-        self.join_pair(&with_64, &examples::without_events(2), LONGEST);
-        self.join_pair(&examples::without_events(8), &examples::without_events(8), LONGEST);
-        self.join_pair(&examples::outputs(0, 16), &examples::outputs(16, 16), LONGEST);
-        self.join_pair(&examples::outputs(0, 16), &examples::outputs(16, 17), LONGEST);
-        self.join_pair(&examples::outputs(0, 32), &examples::outputs(32, 1), LONGEST);
+        self.join_pair(&with_64, &z, longest());
+        self.join_pair(&z, &with_64, longest());
+        self.join_pair(&with_64, &examples::without_events(2), longest());
+        self.join_pair(&examples::without_events(8), &examples::without_events(8), longest());
+        self.join_pair(&examples::outputs(0, 16), &examples::outputs(16, 16), longest());
+        self.join_pair(&examples::outputs(0, 16), &examples::outputs(16, 17), longest());
+        self.join_pair(&examples::outputs(0, 32), &examples::outputs(32, 1), longest());
     }
 }

@@ -11,6 +11,7 @@ mod explain;
 mod internal;
 mod join;
 mod label;
+mod list;
 mod product;
 mod replay;
 mod replay_limits;

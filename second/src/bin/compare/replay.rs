@@ -2,6 +2,7 @@
 
 use crate::internal;
 use crate::label;
+use crate::list;
 use crate::product::run_program;
 use crate::report::{differ, shown};
 use crate::{all_examples, Comparison, LEAST, LEAST_OF_MAIN};
@@ -24,6 +25,7 @@ pub fn need(tally: &mut Tally) {
     }
     label::need(tally, LOAD, LEAST);
     internal::need(tally, LOAD, LEAST);
+    list::need(tally, LOAD, LEAST);
 }
 
 impl Comparison {
@@ -54,6 +56,7 @@ impl Comparison {
                 if let Some(verdict) = verdict_of_load(*answer) {
                     self.count_labels(LOAD, record);
                     self.count_internal(LOAD, record, verdict);
+                    self.count_lists(LOAD, record, verdict);
                 }
             }
         }
@@ -76,7 +79,7 @@ impl Comparison {
     }
 
     /// Loads of these records, many in a script.
-    fn replay_loads(&mut self, path: &str, records: &[Vec<u8>], capacity: usize) {
+    pub fn replay_loads(&mut self, path: &str, records: &[Vec<u8>], capacity: usize) {
         let mut from = 0;
         while from < records.len() {
             let mut script = Script::new(capacity);
@@ -148,6 +151,7 @@ impl Comparison {
         self.replay_refused_pairs(path);
         self.replay_last_identifier(path);
         self.replay_odd_scripts(path);
+        self.replays_of_lists(path);
     }
 
     fn replay_sessions(&mut self, path: &str) {

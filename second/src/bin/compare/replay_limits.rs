@@ -33,7 +33,7 @@ impl Comparison {
         }
     }
 
-    fn replay_calls(&mut self, path: &str, capacity: usize, calls: &[Call]) {
+    pub fn replay_calls(&mut self, path: &str, capacity: usize, calls: &[Call]) {
         let mut script = Script::new(capacity);
         script.clear();
         for call in calls {

@@ -1,89 +1,88 @@
 use Prim.Native.Nat.{_+_, _-_, _*_, _≤_, _<_}
 use mathlib.Core.Path.{_≡_, ap, _∙_}
+use native.Mathlib.Nat.{mul-le-mul-right}
 use native.Mathlib.Omega.{arith}
 use lib.ListN.{length}
 use Rattle.bounded.specs.Search.{each}
 use Rattle.words.specs.Laid.{over}
 use Rattle.words.proofs.LaidLaws.{length-over, nothing-laid}
-use Rattle.part.specs.Record.{states}
-use Rattle.part.proofs.Ranges.{frame}
-use Rattle.relations.specs.Sets.{in-rows}
-use Rattle.closure.specs.Pieces.{piece-by}
-use Rattle.closure.proofs.PieceBytes.{pieces-turn, same-pieces, length-pieces}
+use Rattle.part.specs.Record.{observers}
+use Rattle.screening.proofs.Ranges.{frame}
+use Rattle.closure.specs.Closures.{block, pieces}
+use Rattle.closure.proofs.PieceBytes.{blocks-turn, length-pieces}
 use Rattle.closure.proofs.writer.put_pieces.Statement.{statement}
 use Rattle.closure.proofs.writer.put_pieces.Tie as tie
 
--- The pieces of the states below s are laid.
+-- The blocks of the observers below o are laid.
 abbrev Inv-loop : tie.InvT-loop
-Inv-loop out₀ b rows n s₀ out s =
-    (s ≤ n) × (out ≡ over out₀ 0 (each s (piece-by (in-rows rows) 64)))
+Inv-loop out₀ b count size o₀ out o = (o ≤ count) × (out ≡ over out₀ 0 (each o (block b)))
 
 abbrev μ-loop : tie.MeasureT-loop
-μ-loop out₀ b rows n s₀ out s = n - s
+μ-loop out₀ b count size o₀ out o = count - o
 
-observer-requires : tie.Need-observer-requires Inv-loop μ-loop
-observer-requires c κs = let f = frame _ (c .before .before .pre .0) .whole in omega arith
+observers-requires : tie.Need-observers-requires Inv-loop μ-loop
+observers-requires c κs = frame _ (c .before .before .pre .0)
 
-concerned-requires : tie.Need-concerned-requires Inv-loop μ-loop
-concerned-requires c κs = frame _ (c .before .before .before .pre .0)
-
-array-read-step-rows : tie.Need-array-read-step-rows Inv-loop μ-loop
-array-read-step-rows c = omega arith
-
-step-rows-requires : tie.Need-step-rows-requires Inv-loop μ-loop
-step-rows-requires c κs = frame _ (c .before .before .before .before .pre .0)
-
-states-requires : tie.Need-states-requires Inv-loop μ-loop
-states-requires c κs = let f = frame _ (c .before .before .before .before .before .pre .0) .whole in omega arith
-
--- the piece of the next state has its place
-room : (c : tie.In-loop Inv-loop μ-loop) →
-    let start = c .before .before .before .before .before .before .before .before in
-    (c .before .loop .s < 64) × (c .before .loop .s * 136 + 136 ≤ length (start .args .out .now))
-room c =
-    let start = c .before .before .before .before .before .before .before .before in
-    let (a, fits) = start .pre in
-    let next : c .before .loop .s + 1 ≤ states (start .args .b .now) = omega (arith, c .loop-test .taken) in
-    (omega (arith, frame _ a .few .most-states), omega (arith, length-pieces _ a))
+block-size-requires : tie.Need-block-size-requires Inv-loop μ-loop
+block-size-requires c κs = c .before .before .before .pre .0
 
 loop-holds : tie.Need-loop-holds Inv-loop μ-loop
 loop-holds c = (omega arith, nothing-laid _ _ _)
 
-mul-put-piece : tie.Need-mul-put-piece Inv-loop μ-loop
-mul-put-piece c = omega (arith, room (c .before))
+-- the block of the next observer has its place
+room : (c : tie.In-loop Inv-loop μ-loop) →
+    let start = c .before .before .before .before .before .before in
+    let size = c .before .before .block-size .result in
+    (c .before .loop .o < observers (start .args .b .now))
+    × (c .before .loop .o * size + size ≤ length (start .args .out .now))
+room c =
+    let start = c .before .before .before .before .before .before in
+    let (a, fits) = start .pre in
+    let long = c .before .before .block-size .ensures .0 in
+    let there : c .before .loop .o < observers (start .args .b .now) =
+    omega (arith, c .loop-test .taken, c .before .before .before .observers .ensures) in
+    (there, omega (arith, length-pieces _ a _ long, mul-le-mul-right (c .before .before .block-size .result) there))
 
-put-piece-requires : tie.Need-put-piece-requires Inv-loop μ-loop
-put-piece-requires c κs =
-    let (few, fits) = room (c .before .before) in
-    (omega arith, omega (arith, ap length (c .before .before .before .loop .inv .1) ∙ length-over _ _ _))
+mul-put-block : tie.Need-mul-put-block Inv-loop μ-loop
+mul-put-block c = omega (arith, room (c .before))
 
-add-s : tie.Need-add-s Inv-loop μ-loop
-add-s c = omega arith
+put-block-requires : tie.Need-put-block-requires Inv-loop μ-loop
+put-block-requires c κs =
+    let (there, fits) = room (c .before) in
+    let long = c .before .before .before .block-size .ensures .0 (c .before .before .loop .o) in (
+      c .before .before .before .before .before .before .before .pre .0,
+      (
+        there,
+        omega (arith, ap length (c .before .before .loop .inv .1) ∙ length-over _ _ _),
+      ),
+    )
+
+add-o : tie.Need-add-o Inv-loop μ-loop
+add-o c = omega arith
 
 loop-less : tie.Need-loop-less Inv-loop μ-loop
 loop-less c = omega arith
 
 loop-again : tie.Need-loop-again Inv-loop μ-loop
 loop-again c =
-    let loop = c .before .before .before .before .before .before in (
+    let turn = c .before .before .before .before .before in
+    let size = turn .before .block-size in (
       omega arith,
-      pieces-turn _ _ (loop .loop .s) (loop .loop .inv .1) (c .before .before .put-piece .ensures),
+      blocks-turn _ _ (turn .loop .o) (size .result) (size .ensures .0) (turn .loop .inv .1)
+          (c .before .before .put-block .ensures),
     )
 
 same-length : tie.Need-same-length Inv-loop μ-loop
 same-length c = ap length (c .before .loop .inv .1) ∙ length-over _ _ _
 
 returns : tie.Need-returns Inv-loop μ-loop
+unfolding pieces
 returns c =
     let l = c .before .loop in
-    let rows = c .before .before .before in
-    let concerned = rows .before in
-    let start = concerned .before .before .before .before in
-    let all : l .s ≡ states (start .args .b .now) = omega arith in
-    let silent = rw (concerned .before .observer .ensures) at (concerned .concerned .ensures 3 (omega arith)) in
-    l .inv .1 ∙ ap (over _ 0) (rw all (same-pieces _ (start .pre .0) _ silent _ (rows .step-rows .ensures .words)))
+    let start = c .before .before .before .before .before .before in
+    let all : l .o ≡ observers (start .args .b .now) = omega (arith, c .before .before .before .observers .ensures) in
+    rw (← all) (l .inv .1)
 
 pub put-pieces-spec : {M : Type 1} → statement M
-put-pieces-spec = tie.close (tie.spec Inv-loop μ-loop observer-requires concerned-requires array-read-step-rows
-    step-rows-requires states-requires loop-holds mul-put-piece put-piece-requires add-s loop-less loop-again
-    same-length returns)
+put-pieces-spec = tie.close (tie.spec Inv-loop μ-loop observers-requires block-size-requires loop-holds mul-put-block
+    put-block-requires add-o loop-less loop-again same-length returns)

@@ -2,7 +2,7 @@ use Prim.Native.Nat.{ℕ}
 use mathlib.Core.Path.{_≡_, sym, _∙_}
 use native.Mathlib.Omega.{arith}
 use Rattle.part.specs.Events.{kind-of}
-use Rattle.part.proofs.Ranges.{frame, ranges}
+use Rattle.screening.proofs.Ranges.{frame, ranges}
 use Rattle.composite.specs.Walk.{meeting}
 use Rattle.composite.proofs.Obstacles.{alone, kinds-clash, levels-clash, meeting-clash, meeting-meets}
 use Rattle.composite.proofs.obstacle.clash_at.Statement.{statement}

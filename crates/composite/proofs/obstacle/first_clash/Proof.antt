@@ -5,7 +5,7 @@ use native.Mathlib.Omega.{arith}
 use Rattle.bounded.specs.Search.{first}
 use Rattle.bounded.proofs.Search.{first-more, first-hit, first-done}
 use Rattle.part.specs.Frame.{place-or-end}
-use Rattle.part.proofs.Ranges.{frame, ranges}
+use Rattle.screening.proofs.Ranges.{frame, ranges}
 use Rattle.composite.specs.Joining.{clash, clash-at, first-clash}
 use Rattle.composite.specs.Answers.{obstacle-of}
 use Rattle.composite.specs.Walk.{fit-of}

@@ -1,24 +1,17 @@
 use mathlib.Core.Path.{sym, ap, _∙_}
-use native.Mathlib.Omega.{arith}
 use borrow.Author.Needs.{needs}
-use Rattle.part.proofs.Ranges.{frame}
 use Rattle.composite.specs.Answers.{obstacle-of}
 use Rattle.composite.specs.Walk.{fit-of}
-use Rattle.composite.proofs.Obstacles.{equal, unequal, different, clashing, large, clear}
+use Rattle.composite.proofs.Obstacles.{different, clashing, large, clear}
 use Rattle.composite.proofs.obstacle.obstacle.Statement.{statement}
 use Rattle.composite.proofs.obstacle.obstacle.Tie as tie
 
-observer-requires : tie.Need-observer-requires
-observer-requires c κs = omega (arith, frame _ (c .before .before .pre .0) .whole)
-
-observer-requires-2 : tie.Need-observer-requires-2
-observer-requires-2 c κs = omega (arith, frame _ (c .before .before .before .pre .1 .0) .whole)
+observers-differ-requires : tie.Need-observers-differ-requires
+observers-differ-requires c κs = search needs
 
 returns : tie.Need-returns
 unfolding fit-of obstacle-of
-returns c =
-    sym (different _ _ (unequal _ _ (c .before .before .observer .ensures) (c .before .observer2 .ensures)
-    (c .if1 .taken)))
+returns c = sym (different _ _ (sym (c .before .observers-differ .ensures) ∙ c .if1 .taken))
 
 first-clash-requires : tie.Need-first-clash-requires
 first-clash-requires c κs = search needs
@@ -30,7 +23,7 @@ returns-2 : tie.Need-returns-2
 unfolding fit-of
 returns-2 c =
     let k = c .before .before .before .before in
-    let same = equal _ _ (k .before .before .observer .ensures) (k .before .observer2 .ensures) (k .if1 .left) in
+    let same = sym (k .before .observers-differ .ensures) ∙ k .if1 .left in
     sym (clashing _ _ _ same
     (sym (c .before .before .before .first-clash .ensures) ∙ ap fit-of (c .before .clash .given .1)))
 
@@ -44,7 +37,7 @@ returns-3 : tie.Need-returns-3
 unfolding fit-of obstacle-of
 returns-3 c =
     let k = c .before .before .before .before .before in
-    let same = equal _ _ (k .before .before .observer .ensures) (k .before .observer2 .ensures) (k .if1 .left) in
+    let same = sym (k .before .observers-differ .ensures) ∙ k .if1 .left in
     let clashless =
     sym (c .before .before .before .before .first-clash .ensures) ∙ ap fit-of
     (c .before .before .enum-told .given .1) in
@@ -54,7 +47,7 @@ returns-4 : tie.Need-returns-4
 unfolding fit-of
 returns-4 c =
     let k = c .before .before .before .before .before in
-    let same = equal _ _ (k .before .before .observer .ensures) (k .before .observer2 .ensures) (k .if1 .left) in
+    let same = sym (k .before .observers-differ .ensures) ∙ k .if1 .left in
     let clashless =
     sym (c .before .before .before .before .first-clash .ensures) ∙ ap fit-of
     (c .before .before .enum-told .given .1) in
@@ -63,5 +56,5 @@ returns-4 c =
 pub obstacle-spec : {M : Type 1} → statement M
 obstacle-spec =
     tie.close
-    (tie.spec observer-requires observer-requires-2 returns first-clash-requires enum-known-clash returns-2 enum-told
+    (tie.spec observers-differ-requires returns first-clash-requires enum-known-clash returns-2 enum-told
     too-large-requires returns-3 returns-4)

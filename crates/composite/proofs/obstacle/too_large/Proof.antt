@@ -1,5 +1,5 @@
 use native.Mathlib.Omega.{arith}
-use Rattle.part.proofs.Ranges.{frame}
+use Rattle.screening.proofs.Ranges.{frame}
 use Rattle.composite.proofs.Obstacles.{many-states, many-events, states-product}
 use Rattle.composite.proofs.obstacle.too_large.Statement.{statement}
 use Rattle.composite.proofs.obstacle.too_large.Tie as tie

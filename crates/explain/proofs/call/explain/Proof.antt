@@ -2,7 +2,7 @@ use mathlib.Core.Path.{_≡_, sym, ap, _∙_}
 use mathlib.Core.List.{[], _∷_}
 use native.Mathlib.Omega.{arith}
 use borrow.Author.Needs.{needs}
-use Rattle.part.proofs.Ranges.{frame}
+use Rattle.screening.proofs.Ranges.{frame}
 use Rattle.restrictive.specs.Verdict.{breaks, verdict}
 use Rattle.restrictive.specs.Answers.{violation-of, verdict-of}
 use Rattle.restrictive.proofs.Theorems.{breaks-exactly}
@@ -33,7 +33,7 @@ breaking c = sym (c .before .before .check .ensures .verdict) ∙ ap verdict-of 
 
 observer-requires : tie.Need-observer-requires
 observer-requires c κs =
-    let f = frame _ (breaks-exactly _ _ .0 (breaking (c .before)) .0) .whole in omega arith
+    let f = frame _ (breaks-exactly _ _ .0 (breaking (c .before)) .0) in (f, f .some-observer)
 
 cast-level : tie.Need-cast-level
 cast-level c = search needs

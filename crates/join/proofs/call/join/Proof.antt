@@ -7,7 +7,7 @@ use Rattle.restrictive.specs.Answers.{verdict-of}
 use Rattle.composite.specs.Joining.{obstacle, length-is, buffer-after}
 use Rattle.composite.specs.Answers.{joining-of, side-of}
 use Rattle.composite.specs.Walk.{fit-of}
-use Rattle.part.proofs.Ranges.{frame}
+use Rattle.screening.proofs.Ranges.{frame}
 use Rattle.join.specs.Pieces.{Joint}
 use Rattle.join.proofs.MergedList.{lists-merged}
 use Rattle.join.proofs.JoinAnswers.{

@@ -1,6 +1,6 @@
 use native.Mathlib.Omega.{arith}
 use borrow.Author.Needs.{needs}
-use Rattle.part.proofs.Ranges.{frame}
+use Rattle.screening.proofs.Ranges.{frame}
 use Rattle.join.proofs.HeadEntries.{has-head, sort-none, sort-first, sort-second, sort-shared}
 use Rattle.join.proofs.entries.sort_of.Statement.{statement}
 use Rattle.join.proofs.entries.sort_of.Tie as tie

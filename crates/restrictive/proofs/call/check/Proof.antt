@@ -2,8 +2,9 @@ use mathlib.Core.Path.{_≡_, refl, sym, ap, _∙_}
 use mathlib.Core.Option.{none}
 use denote.Ref.{now}
 use native.Mathlib.Omega.{arith}
-use Rattle.part.specs.Rejections.{rejection}
-use Rattle.part.specs.Answers.{rejection-of}
+use Rattle.screening.specs.Rejections.{rejection}
+use Rattle.screening.specs.Answers.{rejection-of}
+use Rattle.part.proofs.Fields.{level-inside}
 use Rattle.restrictive.specs.Answers.{verdict-of}
 use Rattle.restrictive.proofs.Verdicts.{reports-refused, reports-rules, ready}
 use borrow.Author.Needs.{needs}
@@ -31,10 +32,11 @@ unfolding rejection-of
 accepted c = sym (c .before .before .screen .ensures) ∙ ap rejection-of (c .enum-told .given .1)
 
 observer-requires : tie.Need-observer-requires
-observer-requires c κs = let f = ready _ (accepted c) .framed .whole in omega arith
+observer-requires c κs = let f = ready _ (accepted c) .framed in (f, f .some-observer)
 
 column-requires : tie.Need-column-requires
-column-requires c κs = ready _ (accepted (c .before)) .framed
+column-requires c κs =
+    let f = ready _ (accepted (c .before)) .framed in (f, level-inside _ 0 f (f .some-observer) .1)
 
 first-violation-requires : tie.Need-first-violation-requires
 first-violation-requires c κs = rw (c .column .ensures) (ready _ (accepted (c .before .before)))

@@ -10,11 +10,11 @@ use Rattle.store.specs.Answers.{answer-of}
 use Rattle.store.specs.Calls.{passes}
 use Rattle.store.specs.Found.{Ends}
 use Rattle.part.proofs.Fields.{record-most}
-use Rattle.part.proofs.Ranges.{frame}
+use Rattle.screening.proofs.Ranges.{frame}
 use Rattle.join.proofs.JoinAnswers.{passing-accepted}
 use Rattle.store.proofs.HookupLaws.{passes-pass, hookup-no-end, hookup-no-first, hookup-no-second}
 use Rattle.part.proofs.Fields.{record-most}
-use Rattle.part.proofs.Ranges.{frame}
+use Rattle.screening.proofs.Ranges.{frame}
 use Rattle.join.proofs.JoinAnswers.{passing-accepted}
 use Rattle.store.proofs.HookupLaws.{first-unfit, second-unfit, both-fit}
 use Rattle.store.proofs.call.hookup.Statement.{statement}

@@ -6,7 +6,7 @@ use borrow.Rule.Slice.PartMut.{mid-len}
 use lib.ListN.{length}
 use Rattle.composite.specs.Joining.{obstacle}
 use Rattle.composite.specs.Walk.{fit-of}
-use Rattle.part.proofs.Ranges.{frame}
+use Rattle.screening.proofs.Ranges.{frame}
 use Rattle.join.specs.Pieces.{Joint}
 use Rattle.join.proofs.JoinAnswers.{passing-accepted, joint}
 use Rattle.join.proofs.MergedList.{lists-merged}

@@ -1,17 +1,31 @@
-use Prim.Native.Nat.{_+_, _-_}
+use Prim.Native.Nat.{_+_, _-_, _<_}
 use mathlib.Core.Path.{_≡_, refl}
 use native.Mathlib.Omega.{arith}
-use borrow.Author.Needs.{needs}
-use Rattle.part.specs.Format.{columns-at}
+use denote.Ref.{now}
+use lib.ListN.{length}
+use Rattle.part.specs.Format.{record-size}
 use Rattle.part.specs.Record.{column}
+use Rattle.part.proofs.Fields.{classes-before}
+use borrow.Author.Needs.{needs}
 use Rattle.part.proofs.field.Part.column.Statement.{statement}
 use Rattle.part.proofs.field.Part.column.Tie as tie
 
-states-requires : tie.Need-states-requires
-states-requires c κs = search needs
+counts-requires : tie.Need-counts-requires
+counts-requires c κs = search needs
+
+column-at-requires : tie.Need-column-at-requires
+column-at-requires c κs =
+    let few = c .counts .ensures .1 in
+    let read = c .counts .ensures .0 in
+    (few, rw read (c .before .before .pre .1))
 
 add-end : tie.Need-add-end
-add-end c = search needs
+add-end c =
+    let few = c .before .before .counts .ensures .1 in
+    let at = c .before .column-at .ensures in
+    let o : c .before .before .before .before .args .o < c .before .before .counts .result .form .columns =
+    rw (c .before .before .counts .ensures .0) (c .before .before .before .before .pre .1) in
+    omega (arith, few, classes-before _ few _ o)
 
 sub-result : tie.Need-sub-result
 sub-result c = search needs
@@ -20,13 +34,23 @@ part-result-start : tie.Need-part-result-start
 part-result-start c = search needs
 
 part-result-end : tie.Need-part-result-end
-part-result-end c = search needs
+part-result-end c =
+    let start = c .before .before .before .before in
+    let few = c .before .before .counts .ensures .1 in
+    let at = c .before .column-at .ensures in
+    let read = c .before .before .counts .ensures .0 in
+    let o : start .args .o < c .before .before .counts .result .form .columns = rw read (start .pre .1) in
+    let whole : length (now (start .args .b)) ≡ record-size (c .before .before .counts .result) = rw read (start .pre .0 .whole) in
+    omega (arith, classes-before _ few _ o)
 
 returns : tie.Need-returns
 unfolding column
 returns c =
-    let size : columns-at + c .before .states .result - columns-at ≡ c .before .states .result = omega arith in
-    rw (size, c .before .states .ensures .0) refl
+    let start = c .before .before .before .before .before in
+    let n = c .before .before .before .counts .result .states in
+    let size : c .before .before .column-at .result + n - c .before .before .column-at .result ≡ n = omega arith in
+    rw (size, c .before .before .column-at .ensures, c .before .before .before .counts .ensures .0) refl
 
 pub column-spec : {M : Type 1} → statement M
-column-spec = tie.close (tie.spec states-requires add-end sub-result part-result-start part-result-end returns)
+column-spec = tie.close (tie.spec counts-requires column-at-requires add-end sub-result part-result-start part-result-end
+    returns)

@@ -1,4 +1,6 @@
+use native.Mathlib.Omega.{arith}
 use borrow.Author.Needs.{needs}
+use Rattle.part.proofs.Fields.{few-classes}
 use Rattle.part.specs.Record.{entry-at}
 use Rattle.part.proofs.field.Part.entry.Statement.{statement}
 use Rattle.part.proofs.field.Part.entry.Tie as tie
@@ -13,7 +15,7 @@ mul-result : tie.Need-mul-result
 mul-result c = search needs
 
 add-result : tie.Need-add-result
-add-result c = search needs
+add-result c = omega (arith, few-classes _ (c .before .counts .ensures .1))
 
 returns : tie.Need-returns
 unfolding entry-at

@@ -3,7 +3,7 @@ use native.Mathlib.Nat.{add-zero}
 use native.Mathlib.Omega.{arith}
 use borrow.Author.Needs.{needs}
 use Rattle.part.specs.Record.{row-at}
-use Rattle.part.proofs.Fields.{rows-inside}
+use Rattle.part.proofs.Fields.{few-classes, rows-inside}
 use Rattle.part.proofs.field.Part.rows.Statement.{statement}
 use Rattle.part.proofs.field.Part.rows.Tie as tie
 
@@ -28,7 +28,7 @@ mul-result-2 : tie.Need-mul-result-2
 mul-result-2 c = omega (arith, few c)
 
 add-result : tie.Need-add-result
-add-result c = omega (arith, few c)
+add-result c = omega (arith, few c, few-classes _ (c .before .before .counts .ensures .1))
 
 returns : tie.Need-returns
 unfolding row-at

@@ -1,5 +1,5 @@
 use native.Mathlib.Omega.{arith}
-use Rattle.part.proofs.Fields.{size-most}
+use Rattle.part.proofs.Fields.{few-rows, few-classes}
 use borrow.Author.Needs.{needs}
 use Rattle.part.proofs.format.Counts.record_size.Statement.{statement}
 use Rattle.part.proofs.format.Counts.record_size.Tie as tie
@@ -8,7 +8,7 @@ body-size-requires : tie.Need-body-size-requires
 body-size-requires c κs = search needs
 
 add-result : tie.Need-add-result
-add-result c = omega (arith, size-most _ (c .before .pre))
+add-result c = let few = c .before .pre in omega (arith, few-rows _ few, few-classes _ few)
 
 returns : tie.Need-returns
 returns c = search needs

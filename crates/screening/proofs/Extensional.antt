@@ -1,0 +1,141 @@
+-- Two accepted records are equal exactly when they say the same.
+use Prim.Native.Nat.{ℕ, zero, suc, _+_, _≤_, _<_}
+use mathlib.Core.Path.{_≡_, refl, sym, ap, _∙_, subst}
+use mathlib.Core.Bool.{Bool, true, false}
+use mathlib.Core.List.{List}
+use mathlib.Core.Option.{some}
+use mathlib.Core.Logic.{_↔_, Iff·rfl, Iff·symm, Iff·trans}
+use native.Mathlib.Omega.{arith}
+use lib.Dec.{T}
+use Rattle.bounded.proofs.Search.{passed}
+use Rattle.machine.specs.Machine.{Kind, input, output, internal}
+use Rattle.words.proofs.Sets.{same-members}
+use Rattle.words.specs.LittleEndian.{byte}
+use Rattle.part.specs.declared.format.Form.{Form}
+use Rattle.part.specs.Format.{max-event-kind, one-observer}
+use Rattle.part.specs.Record.{kind, lead, form-of, observer, states, events, identifier, event-kind, level, row}
+use Rattle.screening.specs.Rejections.{wrong-kind, Accepted}
+use Rattle.part.specs.Frame.{fields-of}
+use Rattle.part.specs.Events.{kind-of, place, event-of}
+use Rattle.screening.specs.Theorems.{Same, Extensionality}
+use Rattle.part.proofs.Rising.{Within, same-sequence}
+use Rattle.screening.proofs.Accepted.{in-frame, not-wrong-kind}
+use Rattle.part.proofs.Fields.{form-one}
+use Rattle.screening.proofs.Rejections.{kind-is}
+use Rattle.screening.proofs.Ranges.{frame, ranges, row-lt}
+use Rattle.screening.proofs.LayoutLaws.{layout-fields, layout-cong}
+use Rattle.screening.proofs.Places.{places}
+use Rattle.part.proofs.Places.{event-at, event-placed, leads-at}
+
+-- The byte of a kind.
+kind-byte : Kind → ℕ
+kind-byte input = 0
+kind-byte output = 1
+kind-byte internal = 2
+
+kind-byte-of : (k : ℕ) → k ≤ max-event-kind → kind-byte (kind-of k) ≡ k
+unfolding kind-of kind-byte
+kind-byte-of zero h = refl
+kind-byte-of (suc zero) h = refl
+kind-byte-of (suc (suc zero)) h = refl
+kind-byte-of (suc (suc (suc k))) h = absurd (omega arith)
+
+-- Two tests that pass together are equal.
+same-test : (p q : Bool) → T p ↔ T q → p ≡ q
+same-test true q h = sym (passed q (h .0 tt))
+same-test false true h = absurd (h .1 tt)
+same-test false false h = refl
+
+-- What is an event of one is an event of the other.
+identifiers-within : (a b : List ℕ) → Accepted a → Accepted b → ((e : ℕ) → event-of a e ≡ event-of b e)
+    → Within (identifier a) (events a) (identifier b) (events b)
+identifiers-within a b ok ok′ maps i h =
+    let e = identifier a i in
+    let w = event-placed b e _ _ (sym (maps e) ∙ event-at a e i (places a ok .found i h)) in
+    let s = places b ok′ .stands e (w .0) (w .1) in
+    (w .0, s .0, sym (s .1))
+
+module _ (a b : List ℕ) (ok : Accepted a) (ok′ : Accepted b) (same : Same a b) where
+  -- as many events, with the same identifiers
+  same-identifiers : (events a ≡ events b) × ((i : ℕ) → i < events a → identifier a i ≡ identifier b i)
+  same-identifiers =
+      same-sequence _ _ _ _ (ranges a ok .identifiers-rise) (ranges b ok′ .identifiers-rise)
+      (identifiers-within a b ok ok′ (same .event-maps))
+      (identifiers-within b a ok′ ok (λ e. sym (same .event-maps e)))
+
+  module _ (i : ℕ) (h : i < events a) where
+    h′ : i < events b
+    h′ = rw (same-identifiers .0) at h
+
+    placed : place a (identifier a i) ≡ some i
+    placed = places a ok .found i h
+
+    -- the event of one stands at the same place in the other
+    placed′ : place b (identifier a i) ≡ some i
+    placed′ = rw (same-identifiers .1 i h) (places b ok′ .found i h′)
+
+    same-event : (kind-of (event-kind a i) ≡ kind-of (event-kind b i)) × (level a i ≡ level b i)
+    same-event =
+        let p = event-at a _ i placed in
+        let q = event-at b _ i placed′ in
+        let r = same .event-maps (identifier a i) in
+        (cc, cc)
+
+    same-kind : event-kind a i ≡ event-kind b i
+    same-kind = sym (kind-byte-of _ (ranges a ok .kinds i h)) ∙ ap kind-byte (same-event .0)
+        ∙ kind-byte-of _ (ranges b ok′ .kinds i h′)
+
+    same-row : (s : ℕ) → s < states a → row a i s ≡ row b i s
+    same-row s l =
+        same-members _ _ _
+        (row-lt a ok i s h l)
+        (rw (same .counts) (row-lt b ok′ i s h′ (rw (same .counts) at l)))
+        (λ t n.
+        same-test _ _ (Iff·trans (Iff·symm (leads-at a _ i s t placed))
+        (Iff·trans (same .steps (identifier a i) s t l n) (leads-at b _ i s t placed′))))
+
+-- The first byte of kind 1 is the observer's level.
+kind-right : (b : List ℕ) → Accepted b → wrong-kind b ≡ false
+kind-right b a = not-wrong-kind b (in-frame b a)
+
+one-form : (b : List ℕ) → Accepted b → form-of b ≡ one-observer
+one-form b a = form-one (kind b) (lead b) (kind-is b (kind-right b a))
+
+one-level : (b : List ℕ) → Accepted b → lead b ≡ observer b 0
+unfolding lead observer
+one-level b a = ap (λ (f : Form). byte b (f .levels + 0)) (sym (one-form b a))
+
+same-self : (a : List ℕ) → Same a a
+same-self a = record {
+  observer-counts = refl;
+  levels = λ o h. refl;
+  counts = refl;
+  starts = refl;
+  classes = λ o s h l. refl;
+  event-maps = λ e. refl;
+  steps = λ e s t h l. Iff·rfl;
+}
+
+pub extensionality : Extensionality
+extensionality a b bytes bytes′ ok ok′ = (
+  λ e. subst (λ (x : List ℕ). Same a x) e (same-self a),
+  λ same.
+      sym (layout-fields a bytes ok)
+      ∙ sym (layout-cong (fields-of b) (fields-of a) (record {
+        kinds = kind-is b (kind-right b ok′) ∙ sym (kind-is a (kind-right a ok));
+        leads = one-level b ok′ ∙ sym (same .levels 0 (frame a ok .some-observer)) ∙ sym (one-level a ok);
+        tables = record {
+          counts = sym (same .counts);
+          starts = sym (same .starts);
+          event-counts = sym (same-identifiers a b ok ok′ same .0);
+          identifiers = λ i h. sym (same-identifiers a b ok ok′ same .1 i h);
+          event-kinds = λ i h. sym (same-kind a b ok ok′ same i h);
+          levels = λ i h. sym (same-event a b ok ok′ same i h .1);
+          rows = λ i s h l. sym (same-row a b ok ok′ same i h s l);
+        };
+        lists = λ o h. absurd (let none = subst (λ (f : Form). o < f .listed) (one-form a ok) h in omega arith);
+        classes = λ o s h l. sym (same .classes o s (subst (λ (f : Form). o < f .observers) (sym (one-form a ok))
+            (subst (λ (f : Form). o < f .columns) (one-form a ok) h)) l);
+      }))
+      ∙ layout-fields b bytes′ ok′,
+)

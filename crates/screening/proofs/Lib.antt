@@ -1,0 +1,9 @@
+pub mod Accepted
+pub mod Rejections
+pub mod Strays
+pub mod Ranges
+pub mod Places
+pub mod LayoutLaws
+pub mod ReadBack
+pub mod Extensional
+pub mod Proper
