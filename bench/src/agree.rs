@@ -3,27 +3,34 @@
 use crate::closure::PIECE;
 use crate::dice::Dice;
 use crate::inputs::{span, Event, Inputs, Table, HIGH, INPUT, LOW};
-use crate::{Version, VERSIONS};
+use crate::{Version, SEVERAL};
 use std::collections::BTreeMap;
 
 /// Longer than any output.
-const ROOM: usize = 16_700;
+const ROOM: usize = if SEVERAL { 35_000 } else { 16_700 };
 
 /// Bytes of an explanation.
 const EXPLANATION: usize = 64;
 
-/// How often each answer came, how often which level was mislabelled on purpose, and how many comparisons failed.
+/// How often each answer came, how often which level was mislabelled on purpose or which record spoilt, and how many comparisons failed. All
+/// versions are compared with the first.
 #[derive(Default)]
 pub struct Score {
+    versions: &'static [Version],
     pub checks: BTreeMap<u32, usize>,
     pub explanations: BTreeMap<u32, usize>,
     pub joins: BTreeMap<u32, usize>,
     pub closures: BTreeMap<u32, usize>,
     pub mislabelled: BTreeMap<String, usize>,
+    pub spoilt: BTreeMap<String, usize>,
     pub differences: usize,
 }
 
 impl Score {
+    pub fn of(versions: &'static [Version]) -> Self {
+        Score { versions, ..Score::default() }
+    }
+
     fn fault(&mut self, what: String) {
         self.differences += 1;
         if self.differences <= 20 {
@@ -32,12 +39,12 @@ impl Score {
     }
 
     pub fn check(&mut self, name: &str, record: &[u8]) -> u32 {
-        let [library, others @ ..] = &VERSIONS;
-        let answer = (library.check)(record);
-        for version in others {
+        let first = &self.versions[0];
+        let answer = (first.check)(record);
+        for version in &self.versions[1..] {
             let other = (version.check)(record);
             if other != answer {
-                self.fault(format!("check of {name}: library {answer}, {} {other}", version.name));
+                self.fault(format!("check of {name}: {} {answer}, {} {other}", first.name, version.name));
             }
         }
         *self.checks.entry(answer).or_default() += 1;
@@ -47,7 +54,7 @@ impl Score {
     /// The explanation, whose answer is also Check's unless there is no room.
     pub fn explain(&mut self, name: &str, record: &[u8], room: usize) -> u32 {
         let answer = self.output(&format!("explanation of {name}"), room, |version, out| (version.explain)(record, out));
-        let check = (VERSIONS[0].check)(record);
+        let check = (self.versions[0].check)(record);
         let judged = check == 0 || check > 100;
         let due = if judged && room < EXPLANATION { 15 } else { check };
         if answer != due {
@@ -73,13 +80,13 @@ impl Score {
     fn output(&mut self, what: &str, room: usize, call: impl Fn(&Version, &mut [u8]) -> u32) -> u32 {
         let before: Vec<u8> = (0..ROOM).map(|i| (i * 7 + 3) as u8).collect();
         let mut wanted = before.clone();
-        let [library, others @ ..] = &VERSIONS;
-        let answer = call(library, &mut wanted[..room]);
-        for version in others {
+        let first = &self.versions[0];
+        let answer = call(first, &mut wanted[..room]);
+        for version in &self.versions[1..] {
             let mut bytes = before.clone();
             let other = call(version, &mut bytes[..room]);
             if other != answer {
-                self.fault(format!("{what}: library {answer}, {} {other}", version.name));
+                self.fault(format!("{what}: {} {answer}, {} {other}", first.name, version.name));
             } else if let Some(place) = (0..ROOM).find(|&i| bytes[i] != wanted[i]) {
                 self.fault(format!("{what}: byte {place} is {}, in {} {}", wanted[place], version.name, bytes[place]));
             }
@@ -109,26 +116,29 @@ impl Score {
 
     fn made_for(&mut self, name: &str, wanted: u32, answer: u32) {
         if answer != wanted {
-            self.fault(format!("{name}: made for {wanted}, library {answer}"));
+            self.fault(format!("{name}: made for {wanted}, {} {answer}", self.versions[0].name));
         }
     }
 
-    /// Random parts, whole, damaged and mislabelled, and random bytes.
-    pub fn random(&mut self, seed: u64, rounds: usize) {
+    /// Random parts with one observer or with several, whole, damaged and mislabelled, and random bytes.
+    pub fn random(&mut self, seed: u64, rounds: usize, several: bool) {
         let dice = &mut Dice(seed);
         for round in 0..rounds {
-            let (a, b) = couple(dice);
+            let (a, b) = couple(dice, several);
             let (mut x, mut y) = (a.record(), b.record());
-            self.single(dice, &format!("random part {round}"), &x, a.n());
+            self.single(dice, &format!("random part {round}"), &x, pieces(&a));
             self.join(&format!("random pair {round}"), &x, &y, room(dice, joined_len(&a, &b)));
             damage(dice, &mut x);
-            self.single(dice, &format!("damaged part {round}"), &x, a.n());
+            self.single(dice, &format!("damaged part {round}"), &x, pieces(&a));
             self.join(&format!("damaged A {round}"), &x, &y, ROOM);
             damage(dice, &mut y);
             self.join(&format!("damaged B {round}"), &a.record(), &y, ROOM);
+            if several {
+                self.spoilt(dice, round, &a, &b);
+            }
             self.mislabelled(dice, round, &a, b);
-            let c = scattered(dice);
-            self.single(dice, &format!("scattered part {round}"), &c.record(), c.n());
+            let c = scattered(dice, several);
+            self.single(dice, &format!("scattered part {round}"), &c.record(), pieces(&c));
             let noise: Vec<u8> = (0..dice.below(40)).map(|_| dice.below(3) as u8).collect();
             self.single(dice, &format!("noise {round}"), &noise, 1);
         }
@@ -139,7 +149,7 @@ impl Score {
         let (which, due) = mislabel(dice, &mut b);
         let (x, y) = (a.record(), b.record());
         let name = format!("part {round}, mislabelled {which}");
-        let answer = self.single(dice, &name, &y, b.n());
+        let answer = self.single(dice, &name, &y, pieces(&b));
         self.made_for(&name, due, answer);
         let answer = self.join(&name, &y, &x, ROOM);
         self.made_for(&name, due, answer);
@@ -147,10 +157,31 @@ impl Score {
         *self.mislabelled.entry(which).or_default() += 1;
     }
 
-    /// The calls on one record, which was made with n states. Gives Check's answer.
-    fn single(&mut self, dice: &mut Dice, name: &str, record: &[u8], n: usize) -> u32 {
+    /// A record of kind 2 that 5, 20 or 6 refuses, alone and on both sides of a join; and now and then one of the largest size.
+    fn spoilt(&mut self, dice: &mut Dice, round: usize, a: &Table, b: &Table) {
+        let (which, record, due) = spoil(dice, a);
+        let name = format!("part {round}, spoilt {which}");
+        let answer = self.single(dice, &name, &record, pieces(a));
+        self.made_for(&name, due, answer);
+        let answer = self.join(&name, &record, &b.record(), ROOM);
+        self.made_for(&name, due, answer);
+        self.join(&name, &b.record(), &record, ROOM);
+        *self.spoilt.entry(which).or_default() += 1;
+        if dice.one_in(20) {
+            let largest = largest(dice);
+            let name = format!("largest part {round}");
+            self.single(dice, &name, &largest.record(), pieces(&largest));
+            let mut one = Table::new(vec![0]);
+            one.further = largest.further.iter().map(|&(observer, _)| (observer, vec![0])).collect();
+            self.join(&name, &largest.record(), &one.record(), room(dice, largest.record().len()));
+            self.join(&name, &one.record(), &largest.record(), ROOM);
+        }
+    }
+
+    /// The calls on one record, which was made to have so many closures. Gives Check's answer.
+    fn single(&mut self, dice: &mut Dice, name: &str, record: &[u8], pieces: usize) -> u32 {
         self.explain(name, record, room(dice, EXPLANATION));
-        self.closure(name, record, room(dice, PIECE * n));
+        self.closure(name, record, room(dice, PIECE * pieces));
         self.check(name, record)
     }
 }
@@ -166,13 +197,36 @@ fn room(dice: &mut Dice, len: usize) -> usize {
     room.min(ROOM)
 }
 
+/// How many closures the part has.
+fn pieces(table: &Table) -> usize {
+    table.n() * table.views().len()
+}
+
+/// One observer, or two to four in rising order.
+fn observers(dice: &mut Dice, several: bool) -> Vec<u8> {
+    let mut list = vec![dice.observer()];
+    if several {
+        let count = 2 + dice.below(3);
+        while list.len() < count {
+            list.push(dice.observer());
+            list.sort();
+            list.dedup();
+        }
+    }
+    list
+}
+
 /// Two parts that often share events and often pass.
-fn couple(dice: &mut Dice) -> (Table, Table) {
+pub fn couple(dice: &mut Dice, several: bool) -> (Table, Table) {
     let (na, nb) = [(8, 8), (64, 1), (1, 64), (32, 2), (5, 7), (9, 7), (2, 3), (64, 2), (1, 1)][dice.below(9)];
-    let observer = dice.observer();
-    let mut a = grouped(dice, na, observer);
-    let other = if dice.one_in(10) { dice.observer() } else { observer };
-    let mut b = grouped(dice, nb, other);
+    let list = observers(dice, several);
+    let mut a = grouped(dice, na, &list);
+    let mut other = if dice.one_in(10) { observers(dice, several) } else { list };
+    if several && dice.one_in(20) {
+        // Perhaps one is left: kind 1.
+        other.remove(dice.below(other.len()));
+    }
+    let mut b = grouped(dice, nb, &other);
     if !dice.one_in(8) {
         share(dice, &mut a, &mut b);
     }
@@ -194,15 +248,25 @@ fn classes(dice: &mut Dice, n: usize) -> Vec<u8> {
     classes
 }
 
-/// A part made from a machine of its classes; sometimes one row is then changed.
-fn grouped(dice: &mut Dice, n: usize, observer: u8) -> Table {
+/// A part made from a machine of the first observer's classes; sometimes one row is then changed. Each further observer has the same classes,
+/// or some of them are one.
+fn grouped(dice: &mut Dice, n: usize, observers: &[u8]) -> Table {
     let classes = classes(dice, n);
     let seen = classes.iter().fold(0, |seen, &class| seen.max(class as usize + 1));
     let members: Vec<u64> = (0..seen)
         .map(|class| (0..n).filter(|&s| classes[s] as usize == class).fold(0, |set, s| set | 1 << s))
         .collect();
     let mut table = Table::new(classes.clone());
+    let observer = observers[0];
     table.observer = observer;
+    for &observer in &observers[1..] {
+        let coarse = match dice.below(4) {
+            0 => vec![0; seen],
+            1 => self::classes(dice, seen),
+            _ => (0..seen as u8).collect(),
+        };
+        table.further.push((observer, classes.iter().map(|&class| coarse[class as usize]).collect()));
+    }
     table.start = dice.below(n) as u8;
     let m = if dice.one_in(6) { 32 } else { dice.below(18) };
     let mut id = dice.below(4);
@@ -210,9 +274,13 @@ fn grouped(dice: &mut Dice, n: usize, observer: u8) -> Table {
     for _ in 0..m {
         let kind = dice.below(3) as u8;
         let level = [0x00, HIGH, 0x80, observer, dice.level(observer), dice.level(0xff)][dice.below(6)];
-        let low = level >> 6 <= table.observer >> 6 && level & !table.observer & 0x3f == 0;
+        let low = observers.iter().all(|observer| level >> 6 <= observer >> 6 && level & !observer & 0x3f == 0);
+        // The same from every class, so that no coarser classes break a rule.
+        let alike = observers.len() > 1 && !dice.one_in(5);
+        let goal = if alike { dice.some(span(0..seen)) } else { 0 };
         let goals: Vec<u64> = (0..seen)
             .map(|class| match (kind == INPUT, low) {
+                (input, low) if alike && (low || !input) => goal,
                 (true, false) => 1 << class,
                 (true, true) => dice.some(span(0..seen)),
                 _ if dice.one_in(3) => 0,
@@ -239,9 +307,15 @@ fn grouped(dice: &mut Dice, n: usize, observer: u8) -> Table {
 }
 
 /// A part with any number of states, and few steps from each of them, or steps to all.
-fn scattered(dice: &mut Dice) -> Table {
+fn scattered(dice: &mut Dice, several: bool) -> Table {
     let n = 1 + dice.below(64);
-    let mut table = Table::new(if dice.one_in(3) { vec![0; n] } else { classes(dice, n) });
+    let some = |dice: &mut Dice| if dice.one_in(3) { vec![0; n] } else { classes(dice, n) };
+    let mut table = Table::new(some(dice));
+    if several {
+        let list = observers(dice, true);
+        table.observer = list[0];
+        table.further = list[1..].iter().map(|&observer| (observer, some(dice))).collect();
+    }
     let most = 1 + dice.below(2);
     for _ in 0..dice.below(6) {
         let kind = 1 + dice.below(2) as u8;
@@ -266,9 +340,10 @@ fn share(dice: &mut Dice, a: &mut Table, b: &mut Table) {
             } else {
                 event.kind = 1;
                 other.kind = INPUT;
-                let classes = &b.classes;
+                let columns: Vec<&[u8]> = std::iter::once(&b.classes).chain(b.further.iter().map(|view| &view.1)).map(|c| &c[..]).collect();
+                let n = b.classes.len();
                 for (s, row) in other.rows.iter_mut().enumerate() {
-                    let class = (0..classes.len()).filter(|&u| classes[u] == classes[s]).fold(0, |set, u| set | 1 << u);
+                    let class = (0..n).filter(|&u| columns.iter().all(|c| c[u] == c[s])).fold(0, |set, u| set | 1 << u);
                     *row = dice.some(class);
                 }
             }
@@ -280,7 +355,73 @@ fn joined_len(a: &Table, b: &Table) -> usize {
     let n = a.n() * b.n();
     let shared = a.events.iter().filter(|event| b.events.iter().any(|other| other.id == event.id)).count();
     let m = a.events.len() + b.events.len() - shared;
-    10 + n + 4 * m + 8 * m * n
+    let list = if a.further.is_empty() { 0 } else { 1 + a.further.len() };
+    10 + list + (1 + a.further.len()) * n + 4 * m + 8 * m * n
+}
+
+/// Four observers, 64 states and 32 events, which lead anywhere.
+pub fn largest(dice: &mut Dice) -> Table {
+    let list = [0x00, 0x40, 0x80, 0xc1];
+    let same = if dice.one_in(2) { Some(classes(dice, 64)) } else { None };
+    let column = |dice: &mut Dice| same.clone().unwrap_or_else(|| if dice.one_in(2) { vec![0; 64] } else { classes(dice, 64) });
+    let mut table = Table::new(column(dice));
+    table.further = list[1..].iter().map(|&observer| (observer, column(dice))).collect();
+    table.start = dice.below(64) as u8;
+    for _ in 0..32 {
+        let (kind, level) = (dice.below(3) as u8, list[dice.below(4)]);
+        let rows: Vec<u64> = (0..64).map(|s| if kind == INPUT && level != LOW { 1 << s } else { dice.some(u64::MAX) }).collect();
+        table.add(kind, level, |s| rows[s]);
+    }
+    table
+}
+
+/// A record of kind 2 that 5, 20 or 6 refuses, made of this part; with faults that the refusal hides. Tells what is wrong, and which answer is
+/// due.
+fn spoil(dice: &mut Dice, table: &Table) -> (String, Vec<u8>, u32) {
+    let mut table = table.clone();
+    let (n, m) = (table.n(), table.events.len());
+    if dice.one_in(2) {
+        table.observer = 0;
+        table.further.truncate(1);
+        table.further[0].0 = 1 + dice.below(63) as u8;
+    }
+    if m > 0 && dice.one_in(2) {
+        table.events[dice.below(m)].kind = 3;
+    }
+    let mut views: Vec<(u8, Vec<u8>)> = table.views().into_iter().map(|(observer, classes)| (observer, classes.to_vec())).collect();
+    let count = views.len();
+    let i = dice.below(count);
+    let (which, due) = match dice.below(6) {
+        0 => {
+            let count = [0, 1, 5, 6, 255][dice.below(5)];
+            views = (0..count).map(|observer| (observer as u8, table.classes.clone())).collect();
+            (format!("count {count}"), 20)
+        }
+        1 => {
+            let i = 1 + dice.below(count - 1);
+            views.swap(i - 1, i);
+            ("falling observers".to_string(), 20)
+        }
+        2 => {
+            let i = 1 + dice.below(count - 1);
+            views[i].0 = views[i - 1].0;
+            ("equal observers".to_string(), 20)
+        }
+        3 => ("another count".to_string(), 5),
+        _ => (format!("column {}", i + 1), 6),
+    };
+    if due == 6 || dice.one_in(2) {
+        if let Some((_, classes)) = views.get_mut(i) {
+            let s = dice.below(n);
+            classes[s] = classes[..s].iter().fold(0, |k, &class| k.max(class + 1)) + 1 + dice.below(2) as u8;
+        }
+    }
+    let views: Vec<(u8, &[u8])> = views.iter().map(|(observer, classes)| (*observer, &classes[..])).collect();
+    let mut record = table.record_for(&views);
+    if due == 5 {
+        record[6] = [0, 1, 2, 3, 4, 5, 255].into_iter().cycle().skip(dice.below(7)).find(|&other| other != record[6]).unwrap();
+    }
+    (which, record, due)
 }
 
 /// Mislabels one level. Sometimes it also sets a stray bit, which 16 hides, or an unknown kind, which hides 16. Tells what it did, and which
@@ -290,7 +431,11 @@ fn mislabel(dice: &mut Dice, table: &mut Table) -> (String, u32) {
     let (whose, level) = match dice.below(3) {
         0 if m > 0 => ("first event", &mut table.events[0].level),
         1 if m > 0 => ("last event", &mut table.events[m - 1].level),
-        _ => ("observer", &mut table.observer),
+        _ => match table.further.first_mut() {
+            // Still rising: any level above 0 that is not mislabelled is above these.
+            Some((level, _)) if table.observer == 0 => ("second observer", level),
+            _ => ("observer", &mut table.observer),
+        },
     };
     *level = 1 + dice.below(63) as u8;
     match dice.below(6) {
@@ -325,13 +470,15 @@ fn damage(dice: &mut Dice, record: &mut Vec<u8>) {
             }
             5 | 6 if len > 10 => {
                 let n = record[7] as usize;
-                let place = 10 + dice.below(n.max(1));
+                let (list, columns) = lists(record);
+                let place = 10 + list + dice.below((columns * n).max(1));
                 if place < len {
                     record[place] = dice.below(n.max(1)) as u8;
                 }
             }
             7 | 8 if len > 10 => {
-                let place = 10 + record[7] as usize + dice.below(4 * record[9].max(1) as usize);
+                let (list, columns) = lists(record);
+                let place = 10 + list + columns * record[7] as usize + dice.below(4 * record[9].max(1) as usize);
                 if place < len {
                     record[place] = dice.below(4) as u8;
                 }
@@ -342,5 +489,14 @@ fn damage(dice: &mut Dice, record: &mut Vec<u8>) {
             }
             _ => {}
         }
+    }
+}
+
+/// How many bytes list observers, and how many class columns follow.
+fn lists(record: &[u8]) -> (usize, usize) {
+    if record[4] == 2 {
+        (record[6] as usize, record[6] as usize)
+    } else {
+        (0, 1)
     }
 }

@@ -9,12 +9,13 @@ pub const INPUT: u8 = 0;
 pub const OUTPUT: u8 = 1;
 pub const INTERNAL: u8 = 2;
 
-/// A part before it becomes a record.
+/// A part before it becomes a record. With further observers, each with its classes, the record is of kind 2.
 #[derive(Clone)]
 pub struct Table {
     pub observer: u8,
     pub start: u8,
     pub classes: Vec<u8>,
+    pub further: Vec<(u8, Vec<u8>)>,
     pub events: Vec<Event>,
 }
 
@@ -28,7 +29,7 @@ pub struct Event {
 
 impl Table {
     pub fn new(classes: Vec<u8>) -> Self {
-        Table { observer: 0, start: 0, classes, events: Vec::new() }
+        Table { observer: 0, start: 0, classes, further: Vec::new(), events: Vec::new() }
     }
 
     pub fn n(&self) -> usize {
@@ -54,12 +55,31 @@ impl Table {
         &mut self.events.last_mut().unwrap().rows[n - back]
     }
 
+    /// Each observer with its classes.
+    pub fn views(&self) -> Vec<(u8, &[u8])> {
+        let further = self.further.iter().map(|(observer, classes)| (*observer, &classes[..]));
+        std::iter::once((self.observer, &self.classes[..])).chain(further).collect()
+    }
+
     pub fn record(&self) -> Vec<u8> {
-        let (n, m) = (self.n(), self.events.len());
-        let mut bytes = Vec::new();
-        bytes.extend(((4 + n + 4 * m + 8 * m * n) as u32).to_le_bytes());
-        bytes.extend([1, 0, self.observer, n as u8, self.start, m as u8]);
+        if !self.further.is_empty() {
+            return self.record_for(&self.views());
+        }
+        let mut bytes = vec![1, 0, self.observer, self.n() as u8, self.start, self.events.len() as u8];
         bytes.extend(&self.classes);
+        self.behind_length(bytes)
+    }
+
+    /// The record of kind 2 with these observers and classes, be there 2 to 4 of them or not.
+    pub fn record_for(&self, views: &[(u8, &[u8])]) -> Vec<u8> {
+        let mut bytes = vec![2, 0, views.len() as u8, self.n() as u8, self.start, self.events.len() as u8];
+        bytes.extend(views.iter().map(|view| view.0));
+        bytes.extend(views.iter().flat_map(|view| view.1));
+        self.behind_length(bytes)
+    }
+
+    /// These bytes, the entries and the rows behind the body's length.
+    fn behind_length(&self, mut bytes: Vec<u8>) -> Vec<u8> {
         for event in &self.events {
             bytes.extend(event.id.to_le_bytes());
             bytes.extend([event.kind, event.level]);
@@ -69,6 +89,8 @@ impl Table {
                 bytes.extend(row.to_le_bytes());
             }
         }
+        let length = bytes.len() as u32 - 2;
+        bytes.splice(..0, length.to_le_bytes());
         bytes
     }
 }

@@ -6,6 +6,8 @@ mod dice;
 mod fast;
 mod inputs;
 mod proved;
+#[cfg(test)]
+mod tests;
 mod timing;
 
 use agree::Score;
@@ -70,8 +72,12 @@ pub static VERSIONS: [Version; 3] = [
     Version { name: "sharp", check: fast::check_sharp, explain: fast::explain_sharp, join: fast::join_sharp, closure: fast::closure_sharp },
 ];
 
-/// The longest record has so many bytes; closures and explanations have fewer.
-const LONGEST: usize = 16_586;
+/// Whether records with several observers (kind 2) are described so far: in the unverified versions, in the comparison and in the buffers. The
+/// tests have them in any case.
+pub const SEVERAL: bool = cfg!(test);
+
+/// The longest output has so many bytes: the longest record, or the blocks of closures of four observers.
+const LONGEST: usize = if SEVERAL { 4 * 64 * closure::PIECE } else { 16_586 };
 
 /// From so many states on a record is not tiny.
 const SMALL: usize = 8;
@@ -132,15 +138,21 @@ fn usage(message: &str) -> ! {
 
 /// Ends the run where an answer or a byte differs.
 fn compare(inputs: &Inputs, rounds: usize) {
-    let mut score = Score::default();
+    let mut score = Score::of(&VERSIONS);
     score.timed(inputs);
-    score.random(1, rounds);
+    score.random(1, rounds, false);
+    if SEVERAL {
+        score.random(2, rounds, true);
+    }
     println!("Compared with the library, as answer:times");
     let answers = [("checks", &score.checks), ("explanations", &score.explanations), ("joins", &score.joins), ("closures", &score.closures)];
     for (calls, counts) in answers {
         show_counts(calls, counts, " ");
     }
     show_counts("of these parts mislabelled on purpose", &score.mislabelled, ", ");
+    if SEVERAL {
+        show_counts("records with several observers spoilt on purpose", &score.spoilt, ", ");
+    }
     if score.differences > 0 {
         println!("{} differences", score.differences);
         exit(1);
