@@ -19,9 +19,9 @@ use Rattle.words.proofs.Arrays.{length-padded}
 use Rattle.words.proofs.LittleEndian.{length-digits, length-each}
 use Rattle.words.proofs.LaidLaws.{over-append, each-turn}
 use Rattle.words.proofs.Sets.{mask-same, mask-wider, none-above, represents-mask}
-use Rattle.part.specs.Record.{kind, lead, observers, observer, states}
+use Rattle.part.specs.Record.{observers, observer, states}
 use Rattle.screening.specs.Rejections.{Accepted}
-use Rattle.part.proofs.Fields.{formed}
+use Rattle.part.proofs.Fields.{own-columns}
 use Rattle.screening.proofs.Ranges.{frame}
 use Rattle.relations.specs.declared.silent.Closure.{Closure}
 use Rattle.relations.specs.Relations.{step-by, silent-step, reach-for, visits-for, distances-for}
@@ -130,4 +130,4 @@ module _ (b : List ℕ) (a : Accepted b) where
 
   -- There are few observers.
   pub few-observers : observers b ≤ 255
-  few-observers = omega (arith, formed (kind b) (lead b) .own, frame b a .few .most-columns)
+  few-observers = omega (arith, own-columns b, frame b a .few .most-columns)

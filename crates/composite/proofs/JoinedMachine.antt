@@ -26,7 +26,7 @@ use Rattle.part.specs.Events.{place, event-of, Leads}
 use Rattle.screening.proofs.Ranges.{ranges, class-counted}
 use Rattle.screening.proofs.Places.{places}
 use Rattle.part.proofs.Places.{event-none, event-at}
-use Rattle.part.proofs.Fields.{formed}
+use Rattle.part.proofs.Fields.{own-columns}
 use Rattle.screening.proofs.LayoutLaws.{Agree, level-in, level-read, level-agree}
 use Rattle.screening.proofs.ReadBack.{read-back}
 use Rattle.screening.proofs.Proper.{proper-fits}
@@ -115,7 +115,7 @@ module _ (a b : List ℕ) (h : Bytes a) (k : Bytes b) (p : Accepted a) (q : Acce
       → class (joined a b) o (pair (states b) x y) ≡ pair (classes b o) (class a o x) (class b o y)
   unfolding joined-fields
   joined-class o x y h l m =
-      joined-back .classes o (pair (states b) x y) (omega (arith, formed (kind a) (lead a) .own))
+      joined-back .classes o (pair (states b) x y) (omega (arith, own-columns a))
       (pair-lt (states a) (states b) x y l m)
       ∙ joined-class-pair a b o x y m
 

@@ -34,24 +34,24 @@ formed kind lead = go (eqb kind several-kind)
     go true = record { before = omega arith; own = refl }
     go false = record { before = omega arith; own = refl }
 
+-- So each observer of a record has a column, and there is no other.
+pub own-columns : (b : List ℕ) → observers b ≡ form-of b .columns
+own-columns b = formed (kind b) (lead b) .own
+
 -- Kind 1 has one observer, and lists none.
 pub form-one : (kind lead : ℕ) → kind ≡ part-kind → form kind lead ≡ one-observer
 unfolding form
 form-one kind lead e = rw e refl
 
 -- What is asked of the form of a record that is accepted.
-pub record Fit (f : Form) : Type 0 where
+pub record Allowed (f : Form) : Type 0 where
   pub some-observer : 1 ≤ f .observers
-  pub most-listed : f .listed ≤ 255
-  pub most-columns : f .columns ≤ 255
   pub narrow : Narrow f
 
-pub form-fit : (kind lead : ℕ) → kind ≡ part-kind → Fit (form kind lead)
-form-fit kind lead e =
-    subst Fit (sym (form-one kind lead e)) (record {
+pub form-allowed : (kind lead : ℕ) → kind ≡ part-kind → Allowed (form kind lead)
+form-allowed kind lead e =
+    subst Allowed (sym (form-one kind lead e)) (record {
       some-observer = omega arith;
-      most-listed = omega arith;
-      most-columns = omega arith;
       narrow = record { lists = omega arith; columns = omega arith };
     })
 

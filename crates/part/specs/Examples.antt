@@ -14,7 +14,7 @@ use Rattle.part.specs.Events.{kind-of, at-place, place, event-of}
 use Rattle.part.specs.Samples.{P, two-observers}
 
 -- What is read off a record of kind 2: how many observers, the level of each, the class columns, one behind the other, then the entry and
--- the rows; and its size. Of kind 1 the first byte is the level, and the column stands behind the four numbers.
+-- the rows; and its size. Columns that went state by state would be 0 0 and 1 0. Of kind 1 the first byte is the level.
 record Read : Type 0 where
   levels : List ℕ
   columns : List (List ℕ)
@@ -34,7 +34,7 @@ read b = record {
 
 read-two : read two-observers ≡ record {
   levels = 0x00 ∷ 0x40 ∷ [];
-  columns = (0 ∷ 0 ∷ []) ∷ (0 ∷ 1 ∷ []) ∷ [];
+  columns = (0 ∷ 1 ∷ []) ∷ (0 ∷ 0 ∷ []) ∷ [];
   entry = 1 ∷ 0 ∷ 0x40 ∷ [];
   rows = 2 ∷ 1 ∷ [];
   size = 36;
@@ -62,7 +62,7 @@ laid-out = layout (record {
     row = λ i s. getD (2 ∷ 1 ∷ []) s 0;
   };
   listed = λ o. getD (0x00 ∷ 0x40 ∷ []) o 0;
-  class = λ o s. getD (getD ((0 ∷ 0 ∷ []) ∷ (0 ∷ 1 ∷ []) ∷ []) o []) s 0;
+  class = λ o s. getD (getD ((0 ∷ 1 ∷ []) ∷ (0 ∷ 0 ∷ []) ∷ []) o []) s 0;
 })
 
 laid-two : laid-out ≡ two-observers

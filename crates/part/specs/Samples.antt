@@ -37,15 +37,15 @@ T kind level row-0 row-1 row-2 =
     ++ 0x01 ∷ 0x00 ∷ kind ∷ level ∷ []
     ++ digits 8 row-0 ++ digits 8 row-1 ++ digits 8 row-2
 
--- A record of kind 2: two states, which input 1 of level 0x40 toggles, for observers of the levels 0 and 0x40. For the first both states
--- have one class, for the second each has its own.
+-- A record of kind 2: two states, which input 1 of level 0x40 toggles, for observers of the levels 0 and 0x40. For the first each state has
+-- its own class, for the second both have one.
 abbrev pub two-observers : List ℕ
 two-observers =
     0x1E ∷ 0 ∷ 0 ∷ 0 ∷ 0x02 ∷ 0 ∷ []
     ++ 0x02 ∷ 0x02 ∷ 0x00 ∷ 0x01 ∷ []
     ++ 0x00 ∷ 0x40 ∷ []
-    ++ 0x00 ∷ 0x00 ∷ []
     ++ 0x00 ∷ 0x01 ∷ []
+    ++ 0x00 ∷ 0x00 ∷ []
     ++ 0x01 ∷ 0x00 ∷ 0x00 ∷ 0x40 ∷ []
     ++ digits 8 2 ++ digits 8 1
 

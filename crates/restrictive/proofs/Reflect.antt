@@ -61,7 +61,8 @@ module _ (b : List ℕ) (a : Accepted b) (o e i : ℕ) (p : place b e ≡ some i
   asks-iff rule-4 s t u = step-iff rule-4 s t u
   asks-iff rule-5 s t u = step-iff rule-5 s t u
 
-  around-iff : (u v : State b) → T (around b (observer b o) i (u .0) (v .0)) ↔ Around (machine b a) (observation b o) e u v
+  around-iff : (u v : State b) → T (around b (observer b o) i (u .0) (v .0)) ↔ Around (machine b a) (observation b o)
+      e u v
   unfolding around
   around-iff u v =
       let n = states b in

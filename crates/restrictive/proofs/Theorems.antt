@@ -207,7 +207,11 @@ passing-hides b a e = restrictive-hides _ _ _ (passing-restrictive b a e)
 pub earlier-passes : EarlierPasses
 earlier-passes b e =
     let (a, R) = passes-exactly (as-outputs b) .0 e in
-    passes-exactly b .1 (earlier-accepted b a, earlier-related (is-earlier b a 0 (ranges b (earlier-accepted b a) .some-observer)) R)
+    passes-exactly b .1 (
+      earlier-accepted b a,
+      earlier-related (is-earlier b a 0 (ranges b (earlier-accepted b a)
+          .some-observer)) R,
+    )
 
 -- ---- a break names one of the five rules
 

@@ -94,13 +94,15 @@ module _ (a b : List ℕ) (ok : Accepted a) (ok′ : Accepted b) (same : Same a 
         same-test _ _ (Iff·trans (Iff·symm (leads-at a _ i s t placed))
         (Iff·trans (same .steps (identifier a i) s t l n) (leads-at b _ i s t placed′))))
 
--- The first byte of kind 1 is the observer's level.
+-- ---- kind 1
+
 kind-right : (b : List ℕ) → Accepted b → wrong-kind b ≡ false
 kind-right b a = not-wrong-kind b (in-frame b a)
 
 one-form : (b : List ℕ) → Accepted b → form-of b ≡ one-observer
 one-form b a = form-one (kind b) (lead b) (kind-is b (kind-right b a))
 
+-- The first byte is the observer's level.
 one-level : (b : List ℕ) → Accepted b → lead b ≡ observer b 0
 unfolding lead observer
 one-level b a = ap (λ (f : Form). byte b (f .levels + 0)) (sym (one-form b a))

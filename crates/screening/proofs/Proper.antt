@@ -24,7 +24,7 @@ use Rattle.part.specs.Layout.{Fields, shape, counts-of, layout}
 use Rattle.part.specs.declared.format.Counts.{Counts}
 use Rattle.part.specs.declared.format.Form.{Form}
 use Rattle.part.specs.Frame.{Few, fields-of}
-use Rattle.part.proofs.Fields.{form-one, form-fit, few-rows, few-classes, level-inside, column-size}
+use Rattle.part.proofs.Fields.{form-one, form-allowed, few-rows, few-classes, level-inside, column-size}
 use Rattle.screening.proofs.Rejections.{last-range-test, framed}
 use Rattle.screening.proofs.Ranges.{class-counted}
 use Rattle.screening.proofs.LayoutLaws.{Agree, level-in, level-read, level-agree}
@@ -67,10 +67,10 @@ class-small f p o w (suc n) s h l =
 
 pub proper-few : (f : Fields) → Proper f → Few (counts-of f)
 proper-few f p =
-    let fit = form-fit (f .kind) (f .lead) (p .kind-known) in
+    let narrow = form-allowed (f .kind) (f .lead) (p .kind-known) .narrow in
     record {
-      most-listed = fit .most-listed;
-      most-columns = fit .most-columns;
+      most-listed = omega (arith, narrow .lists);
+      most-columns = omega (arith, narrow .columns);
       most-states = p .most-states;
       most-events = p .most-events;
     }

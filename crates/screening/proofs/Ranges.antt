@@ -107,7 +107,8 @@ module _ (b : List ℕ) (a : Accepted b) where
 
   pub event-labelled : (i : ℕ) → i < events b → mislabelled (level b i) ≡ false
   unfolding mislabelled-part mislabelled-at
-  event-labelled = any-none (mislabelled-at b) _ (or-right (any (observers b) (mislabelled-observer b)) _ (not-mislabelled b a))
+  event-labelled = any-none (mislabelled-at b) _ (or-right (any (observers b) (mislabelled-observer b)) _
+      (not-mislabelled b a))
 
   -- ---- the rows
 

@@ -161,7 +161,8 @@ module _ (f : Fields) (w : Fits f) where
       counts = refl;
       starts = refl;
       event-counts = refl;
-      identifiers = λ i l. ap (number 2 (layout f)) (read-entry i) ∙ stands-number 2 (f .table .identifier i) (w .identifier-fits i l)
+      identifiers = λ i l. ap (number 2 (layout f)) (read-entry i) ∙ stands-number 2 (f .table .identifier i) (w
+          .identifier-fits i l)
           (stands-front (digits 2 (f .table .identifier i)) (f .table .event-kind i ∷ f .table .level i ∷ [])
           (entry-stands f i l));
       event-kinds = λ i l.
@@ -172,7 +173,8 @@ module _ (f : Fields) (w : Fits f) where
           ap (λ (p : ℕ). byte (layout f) (p + 3)) (read-entry i) ∙ stands-byte
           (stands-back (digits 2 (f .table .identifier i) ++ f .table .event-kind i ∷ []) (f .table .level i ∷ [])
           (entry-stands f i l));
-      rows = λ i s l k. ap (number 8 (layout f)) (read-row-place i s) ∙ stands-number 8 (f .table .row i s) (w .row-fits i s l k) (row-stands f i s l k);
+      rows = λ i s l k. ap (number 8 (layout f)) (read-row-place i s) ∙ stands-number 8 (f .table .row i s) (w
+          .row-fits i s l k) (row-stands f i s l k);
     };
     lists = λ o l. stands-byte (level-stands f o l);
     classes = λ o s l k.

@@ -11,7 +11,7 @@ use Rattle.bounded.proofs.Search.{or-left, or-right, is-true}
 use Rattle.part.specs.Format.{part-kind, max-states, max-events, lists-at, body-size}
 use Rattle.part.specs.Record.{body-length, kind, lead, states, start, events, counts, identifier}
 use Rattle.part.specs.Frame.{Framed}
-use Rattle.part.proofs.Fields.{form-fit}
+use Rattle.part.proofs.Fields.{form-allowed}
 use Rattle.screening.specs.Rejections.{too-short, wrong-length, wrong-kind, out-of-range, wrong-size, falls-at}
 use Rattle.screening.specs.Rejections.{frame-conditions, NoneOf}
 use Rattle.screening.proofs.Accepted.{not-too-short, not-wrong-length, not-wrong-kind, not-out-of-range, not-wrong-size}
@@ -69,14 +69,14 @@ module _ (b : List ℕ) where
       let after = rest (not-wrong-length b a) in
       let size : body-length b ≡ body-size (counts b) = eqb-true _ _ (not-false _ (not-wrong-size b a)) in
       let c = ranged (not-out-of-range b a) in
-      let form = form-fit (kind b) (lead b) (kind-is (not-wrong-kind b a)) in
+      let form = form-allowed (kind b) (lead b) (kind-is (not-wrong-kind b a)) in
       record {
         whole = omega arith;
         one-state = c .one-state;
         some-observer = form .some-observer;
         few = record {
-          most-listed = form .most-listed;
-          most-columns = form .most-columns;
+          most-listed = omega (arith, form .narrow .lists);
+          most-columns = omega (arith, form .narrow .columns);
           most-states = c .most-states;
           most-events = c .most-events;
         };

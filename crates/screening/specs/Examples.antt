@@ -1,4 +1,4 @@
--- Records on which the rejections and the machine are computed: P and Z are accepted, and each damaged record has its number. Some break
+-- Records on which the rejections are computed: P and Z are accepted, and each damaged record has its number. Some break
 -- two conditions, so that the order counts; some stand at a limit.
 use Prim.Native.Nat.{ℕ}
 use mathlib.Core.Path.{_≡_, refl}

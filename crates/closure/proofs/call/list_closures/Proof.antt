@@ -45,7 +45,8 @@ is-accepted c = rejection-none _ .0 (accepted c)
 size : (c : tie.After-block-size)
     → length (pieces (c .before .before .before .before .before .before .before .args .bytes .now))
     ≡ c .before .observers .result * c .block-size .result
-size c = rw (c .before .observers .ensures) (length-pieces _ (is-accepted (c .before .before)) _ (c .block-size .ensures .0))
+size c = rw (c .before .observers .ensures) (length-pieces _ (is-accepted (c .before .before)) _ (c .block-size
+    .ensures .0))
 
 observers-requires : tie.Need-observers-requires
 observers-requires c κs = frame _ (is-accepted c)
@@ -84,5 +85,6 @@ returns-3 c =
     )
 
 pub list-closures-spec : {M : Type 1} → statement M
-list-closures-spec = tie.close (tie.spec screen-requires enum-known-screened returns enum-told observers-requires block-size-requires mul-if1
+list-closures-spec = tie.close (tie.spec screen-requires enum-known-screened returns enum-told observers-requires
+    block-size-requires mul-if1
     returns-2 put-pieces-requires same-length returns-3)

@@ -89,5 +89,6 @@ returns c =
 
 pub put-block-spec : {M : Type 1} → statement M
 put-block-spec = tie.close (tie.spec Inv-loop μ-loop observer-requires concerned-requires array-read-step-rows
-    step-rows-requires states-requires loop-holds mul-put-piece add-put-piece put-piece-requires add-s loop-less loop-again
+    step-rows-requires states-requires loop-holds mul-put-piece add-put-piece put-piece-requires add-s loop-less
+    loop-again
     same-length returns)

@@ -78,5 +78,6 @@ returns-3 c =
     (of-pass _ passing (report .ensures .taken)) (tell .tell2 .ensures .0) (tell .tell2 .ensures .1)
 
 pub explain-spec : {M : Type 1} → statement M
-explain-spec = tie.close (tie.spec check-requires enum-told enum-known-verdict observer-requires cast-level tell-requires
+explain-spec = tie.close (tie.spec check-requires enum-told enum-known-verdict observer-requires cast-level
+    tell-requires
     enum-told-2 tell-requires-2 returns same-length returns-2 same-length-2 returns-3)

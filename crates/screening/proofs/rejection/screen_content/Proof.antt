@@ -70,5 +70,6 @@ unfolding first-of rejection-of
 returns-5 c = sym (past-4 c)
 
 pub screen-content-spec : {M : Type 1} → statement M
-screen-content-spec = tie.close (tie.spec observers-requires some-fault-requires returns events-requires some-fault-requires-2 returns-2
+screen-content-spec = tie.close (tie.spec observers-requires some-fault-requires returns events-requires
+    some-fault-requires-2 returns-2
     mislabelled-requires returns-3 stray-bit-requires returns-4 returns-5)

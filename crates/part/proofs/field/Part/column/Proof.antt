@@ -40,7 +40,8 @@ part-result-end c =
     let at = c .before .column-at .ensures in
     let read = c .before .before .counts .ensures .0 in
     let o : start .args .o < c .before .before .counts .result .form .columns = rw read (start .pre .1) in
-    let whole : length (now (start .args .b)) ≡ record-size (c .before .before .counts .result) = rw read (start .pre .0 .whole) in
+    let whole : length (now (start .args .b)) ≡ record-size (c .before .before .counts .result) = rw read (start .pre
+    .0 .whole) in
     omega (arith, classes-before _ few _ o)
 
 returns : tie.Need-returns
@@ -52,5 +53,6 @@ returns c =
     rw (size, c .before .before .column-at .ensures, c .before .before .before .counts .ensures .0) refl
 
 pub column-spec : {M : Type 1} → statement M
-column-spec = tie.close (tie.spec counts-requires column-at-requires add-end sub-result part-result-start part-result-end
+column-spec = tie.close (tie.spec counts-requires column-at-requires add-end sub-result part-result-start
+    part-result-end
     returns)

@@ -14,7 +14,8 @@ add-at : tie.Need-add-at
 add-at c =
     let start = c .before .before .before in
     let inside = level-inside _ _ (start .pre .0) (start .pre .1) .0 in
-    let form : c .before .form .result .levels ≡ form-of (now (start .args .b)) .levels = let e = c .before .form .ensures .0 in cc in
+    let form : c .before .form .result .levels ≡ form-of (now (start .args .b)) .levels = let e = c .before .form
+    .ensures .0 in cc in
     omega arith
 
 shared-slice-read-result : tie.Need-shared-slice-read-result
