@@ -1,7 +1,8 @@
 /* Calls the C entries on the records in the files that are named, each in a buffer of exactly its size, so that a tool that watches
  * memory sees every byte read or written outside. Joins each record with the one before it and with itself, and writes its closures and its
- * explanation, into buffers of several sizes. Where it is not refused, mislabels its first level and then its last, for which each call has
- * to refuse it. */
+ * explanation, into buffers of several sizes. Where it is not refused, mislabels its first level and then its last, and where it lists
+ * observers gives the last of them the level of the one before it: each call has to refuse that. Among them must be records of both
+ * kinds that join. */
 #include <inttypes.h>
 #include <stdbool.h>
 #include <stdio.h>
@@ -68,23 +69,40 @@ static void expect(uint32_t wanted, uint32_t answer, const char *call)
     exit(1);
 }
 
+/* How many joined records list several observers. */
+static unsigned long lists_joined;
+
 /* A join into a buffer of exactly so many bytes. A refused call changes none of them, another none behind the record. */
 static uint32_t join_into(struct bytes a, struct bytes b, size_t size)
 {
     uint8_t *out = lend(size);
     uint32_t answer = hookup_join(a.at, a.len, b.at, b.len, out, size);
     size_t written = answer == HOOKUP_JOINED ? HOOKUP_HEADER + (out[0] | (size_t)out[1] << 8) : 0;
+    lists_joined += written != 0 && out[4] == HOOKUP_SEVERAL_OBSERVERS;
     take_back(out, size, written, "a join");
     return answer;
 }
 
-/* The closures of a record, in the same way. Its eighth byte is the number of states. */
+/* How many observers a record lists: none in the first kind, and none where the bytes do not say so. */
+static size_t listed(struct bytes record)
+{
+    bool several = record.len > HOOKUP_HEADER && (record.at[4] | record.at[5] << 8) == HOOKUP_SEVERAL_OBSERVERS;
+    return several ? record.at[HOOKUP_HEADER] : 0;
+}
+
+/* The bytes of the closures of a record, by its number of observers and of states; 0 where the bytes are too few to say so. */
+static size_t closures_size(struct bytes record)
+{
+    size_t count = listed(record);
+    return record.len > 7 ? HOOKUP_CLOSURE_PIECE * (count == 0 ? 1 : count) * record.at[7] : 0;
+}
+
+/* The closures of a record, in the same way. */
 static uint32_t closures_into(struct bytes record, size_t size)
 {
     uint8_t *out = lend(size);
     uint32_t answer = hookup_closure(record.at, record.len, out, size);
-    size_t written = answer == HOOKUP_CLOSED ? HOOKUP_CLOSURE_PIECE * (size_t)record.at[7] : 0;
-    take_back(out, size, written, "a closure");
+    take_back(out, size, answer == HOOKUP_CLOSED ? closures_size(record) : 0, "a closure");
     return answer;
 }
 
@@ -104,14 +122,14 @@ static uint32_t explain_into(struct bytes record, uint32_t check, size_t size)
     return answer;
 }
 
-static const size_t sizes[] = {0, 1, 11, 52, 63, 64, 136, 400, 8703, 8704, 16586, 20000};
+static const size_t sizes[] = {0, 1, 11, 52, 63, 64, 136, 400, 8703, 8704, 16586, 16781, 16782, 34815, 34816, 40000};
 
 struct tally {
     unsigned long calls, done;
 };
 
 static struct tally checks, joins, closures, explanations;
-static unsigned long mislabelled;
+static unsigned long mislabelled, mislisted;
 
 static void count(struct tally *tally, bool done)
 {
@@ -119,17 +137,30 @@ static void count(struct tally *tally, bool done)
     tally->done += done;
 }
 
-/* A record that is not refused, with the level at this place mislabelled: each call refuses it. */
-static void mislabel(struct bytes record, size_t place)
+/* A record that is not refused, with another byte at this place: each call refuses it with this number. */
+static void spoil(struct bytes record, size_t place, uint8_t byte, uint32_t refusal, unsigned long *spoilt)
 {
-    uint8_t level = record.at[place];
-    record.at[place] = 0x01;
-    expect(HOOKUP_MISLABELLED, hookup_check(record.at, record.len), "a check");
-    expect(HOOKUP_MISLABELLED, join_into(record, record, HOOKUP_MAX_RECORD), "a join");
-    expect(HOOKUP_MISLABELLED, closures_into(record, HOOKUP_MAX_CLOSURE), "a closure");
-    explain_into(record, HOOKUP_MISLABELLED, HOOKUP_EXPLANATION);
-    record.at[place] = level;
-    mislabelled++;
+    uint8_t before = record.at[place];
+    record.at[place] = byte;
+    expect(refusal, hookup_check(record.at, record.len), "a check");
+    expect(refusal, join_into(record, record, HOOKUP_MAX_RECORD), "a join");
+    expect(refusal, closures_into(record, HOOKUP_MAX_CLOSURE), "a closure");
+    explain_into(record, refusal, HOOKUP_EXPLANATION);
+    record.at[place] = before;
+    ++*spoilt;
+}
+
+/* The levels of a record that is not refused: the first observer's and the last event's mislabelled, the last two listed equal. The first
+ * listed level stands behind the four numbers of the body, and the last event's is the byte before the rows. */
+static void spoil_levels(struct bytes record)
+{
+    size_t count = listed(record), n = record.at[7], m = record.at[9];
+    size_t list = HOOKUP_HEADER + 4;
+    spoil(record, count == 0 ? HOOKUP_HEADER : list, 0x01, HOOKUP_MISLABELLED, &mislabelled);
+    if (m > 0)
+        spoil(record, list + count + (count == 0 ? 1 : count) * n + 4 * m - 1, 0x01, HOOKUP_MISLABELLED, &mislabelled);
+    if (count > 0)
+        spoil(record, list + count - 1, record.at[list + count - 2], HOOKUP_MISLISTED, &mislisted);
 }
 
 static void try_record(struct bytes before, struct bytes now)
@@ -142,13 +173,11 @@ static void try_record(struct bytes before, struct bytes now)
         count(&closures, closures_into(now, sizes[i]) == HOOKUP_CLOSED);
         count(&explanations, judged(explain_into(now, check, sizes[i])));
     }
-    size_t fits = now.len > 7 ? HOOKUP_CLOSURE_PIECE * (size_t)now.at[7] : 0;
+    size_t fits = closures_size(now);
     count(&closures, closures_into(now, fits) == HOOKUP_CLOSED);
     count(&closures, closures_into(now, fits == 0 ? 0 : fits - 1) == HOOKUP_CLOSED);
     if (judged(check))
-        mislabel(now, HOOKUP_HEADER);
-    if (judged(check) && now.at[9] > 0)
-        mislabel(now, 9 + now.at[7] + 4 * (size_t)now.at[9]); /* the byte before the rows */
+        spoil_levels(now);
 }
 
 int main(int named, char **names)
@@ -161,7 +190,11 @@ int main(int named, char **names)
         before = now;
     }
     free(before.at);
-    printf("entries: %lu checks, %lu pass; %lu joins, %lu joined; %lu closures, %lu written; %lu explanations, %lu written; %lu mislabelled\n",
-           checks.calls, checks.done, joins.calls, joins.done, closures.calls, closures.done, explanations.calls, explanations.done, mislabelled);
-    return checks.done != 0 && joins.done != 0 && closures.done != 0 && explanations.done != 0 && mislabelled != 0 ? 0 : 1;
+    printf("entries: %lu checks, %lu pass; %lu joins, %lu joined, %lu with several observers; %lu closures, %lu written; %lu explanations, %lu written; "
+           "%lu mislabelled, %lu mislisted\n",
+           checks.calls, checks.done, joins.calls, joins.done, lists_joined, closures.calls, closures.done, explanations.calls, explanations.done,
+           mislabelled, mislisted);
+    bool both_joined = lists_joined != 0 && joins.done > lists_joined;
+    bool all_done = checks.done != 0 && both_joined && closures.done != 0 && explanations.done != 0;
+    return all_done && mislabelled != 0 && mislisted != 0 ? 0 : 1;
 }

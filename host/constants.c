@@ -1,9 +1,15 @@
-/* Compares the sizes of hookup.h, its struct, the answer that hookup-host never gets, and which levels are refused, with the library. A size
- * is right where the library takes it and nothing beyond it. C11, and C++ too; status 1 and a line for each that is wrong. */
+/* Compares the sizes of hookup.h, its kinds, its struct, the answer that hookup-host never gets, and which levels and lists of observers are
+ * refused, with the library. A size is right where the library takes it and nothing beyond it. C11, and C++ too; status 1 and a line for
+ * each that is wrong. */
 #include <stdio.h>
 #include <string.h>
 
 #include "hookup.h"
+
+enum { ONE = HOOKUP_ONE_OBSERVER, SEVERAL = HOOKUP_SEVERAL_OBSERVERS };
+
+/* The levels of listed observers, which rise; one more than a record may list. */
+static const uint8_t levels_listed[HOOKUP_MAX_OBSERVERS + 1] = {0x00, 0x40, 0x80, 0xC0, 0xC1};
 
 static int wrong = 0;
 static uint8_t out[65536];
@@ -16,24 +22,39 @@ static void expect(size_t wanted, size_t got, const char *what)
     wrong = 1;
 }
 
-/* Lays the frame of a record of n states in one class and m low inputs without a step, where there were only zeros, and gives its length. */
-static size_t frame(uint8_t *record, size_t n, size_t m)
+/* The number of observers that a record lists, which is none in the first kind. */
+static size_t listed(const uint8_t *record)
 {
-    size_t len = HOOKUP_HEADER + 4 + n + 4 * m + 8 * m * n;
-    record[0] = (uint8_t)(len - HOOKUP_HEADER);
-    record[1] = (uint8_t)((len - HOOKUP_HEADER) >> 8);
-    record[4] = 1;
-    record[7] = (uint8_t)n;
-    record[9] = (uint8_t)m;
-    for (size_t i = 0; i < m; i++)
-        record[HOOKUP_HEADER + 4 + n + 4 * i] = (uint8_t)i;
-    return len;
+    return record[4] == SEVERAL ? record[HOOKUP_HEADER] : 0;
 }
 
-/* The entry of the event at place i of a record that has its frame. */
+/* The class column of an observer of a record that has its frame; behind the last one come the entries. */
+static uint8_t *column(uint8_t *record, size_t o)
+{
+    return record + HOOKUP_HEADER + 4 + listed(record) + o * record[7];
+}
+
+/* The entry of the event at place i. */
 static uint8_t *entry(uint8_t *record, size_t i)
 {
-    return record + HOOKUP_HEADER + 4 + record[7] + 4 * i;
+    return column(record, record[4] == SEVERAL ? listed(record) : 1) + 4 * i;
+}
+
+/* Lays the frame of a record of this kind, so many listed observers, n states in one class for each observer, and m low inputs without a
+ * step, where there were only zeros, and gives its length. */
+static size_t frame(uint8_t *record, uint8_t kind, size_t count, size_t n, size_t m)
+{
+    record[4] = kind;
+    record[HOOKUP_HEADER] = (uint8_t)count;
+    record[7] = (uint8_t)n;
+    record[9] = (uint8_t)m;
+    memcpy(record + HOOKUP_HEADER + 4, levels_listed, count);
+    for (size_t i = 0; i < m; i++)
+        entry(record, i)[0] = (uint8_t)i;
+    size_t body = (size_t)(entry(record, m) - record) - HOOKUP_HEADER + 8 * m * n;
+    record[0] = (uint8_t)body;
+    record[1] = (uint8_t)(body >> 8);
+    return HOOKUP_HEADER + body;
 }
 
 /* A step of the event at place i. */
@@ -43,13 +64,22 @@ static void step(uint8_t *record, size_t i, size_t s, size_t t)
 }
 
 /* Such a record whose events stay in each state. */
-static size_t make(uint8_t *record, size_t n, size_t m)
+static size_t make(uint8_t *record, uint8_t kind, size_t count, size_t n, size_t m)
 {
-    size_t len = frame(record, n, m);
+    size_t len = frame(record, kind, count, n, m);
     for (size_t i = 0; i < m; i++)
         for (size_t s = 0; s < n; s++)
             step(record, i, s, s);
     return len;
+}
+
+/* What Check says of such a record. */
+static uint32_t check_made(uint8_t kind, size_t count, size_t n, size_t m)
+{
+    static uint8_t record[65536];
+    memset(record, 0, sizeof record);
+    size_t len = make(record, kind, count, n, m);
+    return hookup_check(record, len);
 }
 
 /* A call that writes to out. */
@@ -66,10 +96,48 @@ static void expect_written(writer *call, const uint8_t *record, size_t len, size
     expect(changed, end, "bytes that it changed");
 }
 
+/* The longest records of both kinds, and what is one too many. */
+static void sizes(void)
+{
+    static uint8_t largest[65536], smallest[64];
+    size_t len = make(largest, SEVERAL, HOOKUP_MAX_OBSERVERS, HOOKUP_MAX_STATES, HOOKUP_MAX_EVENTS);
+    expect(HOOKUP_MAX_RECORD, len, "bytes of the largest record");
+    expect(HOOKUP_MAX_BODY, len - HOOKUP_HEADER, "bytes of its body");
+    expect(HOOKUP_PASS, hookup_check(largest, len), "the largest record");
+    expect(HOOKUP_WRONG_LENGTH, hookup_check(largest, HOOKUP_HEADER), "its header alone");
+    expect(HOOKUP_TOO_SHORT, hookup_check(largest, HOOKUP_HEADER - 1), "its header without the last byte");
+    expect(HOOKUP_PASS, check_made(ONE, 0, HOOKUP_MAX_STATES, HOOKUP_MAX_EVENTS), "the largest record with one observer");
+    expect(HOOKUP_OUT_OF_RANGE, check_made(ONE, 0, HOOKUP_MAX_STATES + 1, 0), "one state too many");
+    expect(HOOKUP_OUT_OF_RANGE, check_made(ONE, 0, 1, HOOKUP_MAX_EVENTS + 1), "one event too many");
+    expect(HOOKUP_OUT_OF_RANGE, check_made(SEVERAL, 2, HOOKUP_MAX_STATES + 1, 0), "one state too many for two observers");
+    expect(HOOKUP_OUT_OF_RANGE, check_made(SEVERAL, 2, 1, HOOKUP_MAX_EVENTS + 1), "one event too many for two observers");
+
+    size_t little = make(smallest, SEVERAL, HOOKUP_MAX_OBSERVERS, 1, 0);
+    expect(HOOKUP_JOINED, hookup_join(largest, len, smallest, little, out, HOOKUP_MAX_RECORD), "the largest joined record");
+    expect(0, (size_t)memcmp(out, largest, HOOKUP_MAX_RECORD), "its difference from the largest record");
+    expect(HOOKUP_NO_ROOM, hookup_join(largest, len, smallest, little, out, HOOKUP_MAX_RECORD - 1), "room for all but its last byte");
+}
+
+/* Every number but two is refused as a kind. */
+static void kinds(void)
+{
+    static uint8_t record[64];
+    size_t len = make(record, ONE, 0, 1, 0), refused = 0;
+    for (size_t kind = 0; kind <= 0xFFFF; kind++) {
+        record[4] = (uint8_t)kind;
+        record[5] = (uint8_t)(kind >> 8);
+        refused += hookup_check(record, len) == HOOKUP_WRONG_KIND;
+    }
+    expect(0xFFFE, refused, "kinds refused");
+    expect(HOOKUP_PASS, check_made(ONE, 0, 1, 0), "one observer");
+    expect(HOOKUP_PASS, check_made(SEVERAL, 2, 1, 0), "two observers");
+}
+
 static void closures(void)
 {
     static uint8_t line[65536], smallest[64];
-    size_t len = frame(line, HOOKUP_MAX_STATES, 1), last = HOOKUP_MAX_STATES - 1;
+    size_t len = frame(line, SEVERAL, HOOKUP_MAX_OBSERVERS, HOOKUP_MAX_STATES, 1), last = HOOKUP_MAX_STATES - 1;
+    const uint8_t *block = out + (HOOKUP_MAX_OBSERVERS - 1) * HOOKUP_MAX_STATES * HOOKUP_CLOSURE_PIECE;
     entry(line, 0)[2] = 2; /* internal, so silent */
     for (size_t s = 0; s < last; s++)
         step(line, 0, s, s + 1);
@@ -77,12 +145,12 @@ static void closures(void)
     expect_written(hookup_closure, line, len, HOOKUP_MAX_CLOSURE, HOOKUP_CLOSED, HOOKUP_MAX_CLOSURE, "the closures of most states");
     expect_written(hookup_closure, line, len, sizeof out, HOOKUP_CLOSED, HOOKUP_MAX_CLOSURE, "the same with room behind them");
     expect(HOOKUP_MAX_STATES, line[HOOKUP_HEADER + 1], "the number of states in the record");
-    expect(last, out[HOOKUP_CLOSURE_SET + last], "the last visit from the first state");
-    expect(last, out[HOOKUP_CLOSURE_SET + HOOKUP_CLOSURE_VISITS + last], "its distance");
-    expect(last, out[last * HOOKUP_CLOSURE_PIECE + HOOKUP_CLOSURE_SET], "the first visit from the last state");
+    expect(last, block[HOOKUP_CLOSURE_SET + last], "the last visit from the first state");
+    expect(last, block[HOOKUP_CLOSURE_SET + HOOKUP_CLOSURE_VISITS + last], "its distance");
+    expect(last, block[last * HOOKUP_CLOSURE_PIECE + HOOKUP_CLOSURE_SET], "the first visit from the last state");
     expect_written(hookup_closure, line, len, HOOKUP_MAX_CLOSURE - 1, HOOKUP_NO_ROOM, 0, "room for all but their last byte");
 
-    len = make(smallest, 1, 0);
+    len = make(smallest, ONE, 0, 1, 0);
     expect_written(hookup_closure, smallest, len, HOOKUP_CLOSURE_PIECE, HOOKUP_CLOSED, HOOKUP_CLOSURE_PIECE, "the closure of one state");
     expect_written(hookup_closure, smallest, len, HOOKUP_CLOSURE_PIECE - 1, HOOKUP_NO_ROOM, 0, "room for all but its last byte");
     expect(HOOKUP_TOO_SHORT, hookup_closure(smallest, HOOKUP_HEADER - 1, NULL, 0), "closures of no record, without room");
@@ -108,9 +176,9 @@ static void expect_numbers(struct hookup_explanation wanted)
 static size_t make_break(uint8_t *record)
 {
     static const uint8_t classes[] = {0, 1, 2, 3, 4, 5, 1}, low[] = {515 & 255, 515 >> 8, 1, 0x80}, high[] = {600 & 255, 600 >> 8, 2, 0xC0};
-    size_t len = frame(record, sizeof classes, 2);
-    record[6] = 0x80;
-    memcpy(record + HOOKUP_HEADER + 4, classes, sizeof classes);
+    size_t len = frame(record, ONE, 0, sizeof classes, 2);
+    record[HOOKUP_HEADER] = 0x80;
+    memcpy(column(record, 0), classes, sizeof classes);
     memcpy(entry(record, 0), low, sizeof low);
     memcpy(entry(record, 1), high, sizeof high);
     step(record, 0, 1, 4);
@@ -124,7 +192,7 @@ static void explanations(void)
     static const struct hookup_explanation pass = {0, 0, 0, 0, 0, 1, 0, 1}, first_break = {5, 515, 1, 4, 6, 8, 0x80, 0};
     size_t size = HOOKUP_EXPLANATION;
     expect(size, sizeof(struct hookup_explanation), "bytes of the struct");
-    size_t len = make(smallest, 1, 0);
+    size_t len = make(smallest, ONE, 0, 1, 0);
     expect_written(hookup_explain, smallest, len, size, HOOKUP_PASS, size, "the explanation of one state");
     expect_numbers(pass);
     expect_written(hookup_explain, smallest, len, size - 1, HOOKUP_NO_ROOM, 0, "room for all but its last byte");
@@ -136,27 +204,82 @@ static void explanations(void)
     expect(HOOKUP_TOO_SHORT, hookup_explain(broken, HOOKUP_HEADER - 1, NULL, 0), "the explanation of no record, without room");
 }
 
-/* How many levels, from 0 on, are judged right at this place of a record that otherwise passes: refused are those of rank 0 with a
- * compartment, and no others. */
-static size_t judged_right(uint8_t *record, size_t len, uint8_t *place)
+/* Most observers, and as many states, each in a class of its own for all of them. From each state but the last an output leads to the next
+ * state, with the level of the observer of that number; so observer o sees the first o outputs, and the others are silent for it. */
+static size_t make_chain(uint8_t *record)
+{
+    size_t count = HOOKUP_MAX_OBSERVERS, len = frame(record, SEVERAL, count, count, count - 1);
+    for (size_t o = 0; o < count; o++)
+        for (size_t s = 0; s < count; s++)
+            column(record, o)[s] = (uint8_t)s;
+    for (size_t i = 0; i < count - 1; i++) {
+        entry(record, i)[2] = 1;
+        entry(record, i)[3] = levels_listed[i + 1];
+        step(record, i, i, i + 1);
+    }
+    return len;
+}
+
+/* In the block of observer o, states below o have themselves alone, and the others all states from them on. */
+static void blocks(uint8_t *record, size_t len)
+{
+    size_t count = HOOKUP_MAX_OBSERVERS, size = count * count * HOOKUP_CLOSURE_PIECE;
+    expect_written(hookup_closure, record, len, size, HOOKUP_CLOSED, size, "a block for each observer");
+    for (size_t o = 0; o < count; o++)
+        for (size_t s = 0; s < count; s++) {
+            size_t all = (1u << count) - (1u << s), alone = 1u << s;
+            expect(s < o ? alone : all, out[(o * count + s) * HOOKUP_CLOSURE_PIECE], "a set in the block of an observer");
+        }
+    expect_written(hookup_closure, record, len, size - 1, HOOKUP_NO_ROOM, 0, "room for all but the last byte of the last block");
+}
+
+/* The chain passes, and the count is the first observer's. With the last state in the class of state 0, for observer o and those behind it,
+ * the break tells o and o's count: the first output leads from 0 to 1, and from the last state nothing leads into the class of 1. */
+static void observers(void)
+{
+    static uint8_t record[256];
+    size_t len = make_chain(record), last = HOOKUP_MAX_OBSERVERS - 1;
+    static const struct hookup_explanation pass = {0, 0, 0, 0, 0, 10, 0, 1};
+    static const size_t taken[HOOKUP_MAX_OBSERVERS] = {10, 7, 5, 4};
+    blocks(record, len);
+    expect_written(hookup_explain, record, len, sizeof out, HOOKUP_PASS, HOOKUP_EXPLANATION, "a pass for each observer");
+    expect_numbers(pass);
+    for (size_t o = HOOKUP_MAX_OBSERVERS; o-- > 0;) {
+        uint32_t rule = o == 0 ? 4 : 5; /* the first output is silent for the first observer alone */
+        struct hookup_explanation told = {rule, 0, 0, 1, last, taken[o], levels_listed[o], 0};
+        column(record, o)[last] = 0;
+        expect_written(hookup_explain, record, len, sizeof out, HOOKUP_BREAK + rule, HOOKUP_EXPLANATION, "a break for some observers");
+        expect_numbers(told);
+    }
+}
+
+/* How many levels, from 0 on, are judged right at this place of a record that otherwise passes: those that are not between these two are
+ * refused, since the list does not rise, of the others those of rank 0 with a compartment, and no more. */
+static size_t judged_between(int below, int above, uint8_t *record, size_t len, uint8_t *place)
 {
     uint8_t before = *place;
-    size_t level = 0;
+    int level = 0;
     for (; level < 256; level++) {
         uint32_t wanted = level >= 0x01 && level <= 0x3F ? HOOKUP_MISLABELLED : HOOKUP_PASS;
         *place = (uint8_t)level;
-        if (hookup_check(record, len) != wanted)
+        if (hookup_check(record, len) != (level > below && level < above ? wanted : HOOKUP_MISLISTED))
             break;
     }
     *place = before;
-    return level;
+    return (size_t)level;
+}
+
+/* The same where any level may stand. */
+static size_t judged_right(uint8_t *record, size_t len, uint8_t *place)
+{
+    return judged_between(-1, 256, record, len, place);
 }
 
 /* One state and most events. A stray bit, a mislabelled level and an unknown kind come in turn, and each hides the one before. */
 static void levels(void)
 {
     static uint8_t record[512];
-    size_t len = make(record, 1, HOOKUP_MAX_EVENTS), last = HOOKUP_MAX_EVENTS - 1;
+    size_t len = make(record, ONE, 0, 1, HOOKUP_MAX_EVENTS), last = HOOKUP_MAX_EVENTS - 1;
     expect(256, judged_right(record, len, record + HOOKUP_HEADER), "levels of the observer judged right");
     expect(256, judged_right(record, len, entry(record, 0) + 3), "levels of the first event judged right");
     expect(256, judged_right(record, len, entry(record, last) + 3), "levels of the last event judged right");
@@ -170,24 +293,38 @@ static void levels(void)
     expect(HOOKUP_MISORDERED, hookup_check(record, len), "an unknown kind with both");
 }
 
+/* Each place of a list of most observers, where, since it rises, the third level and the fourth are never the first mislabelled one; each
+ * number of observers. Then a wrong class, a list that does not rise and a wrong length come in turn, and each hides the one before. */
+static void lists(void)
+{
+    static uint8_t record[512];
+    size_t count = HOOKUP_MAX_OBSERVERS, len = make(record, SEVERAL, count, 2, 1);
+    uint8_t *list = record + HOOKUP_HEADER + 4;
+    for (size_t o = 0; o < count; o++) {
+        int below = o == 0 ? -1 : list[o - 1], above = o == count - 1 ? 256 : list[o + 1];
+        expect(256, judged_between(below, above, record, len, list + o), "levels of a listed observer judged right");
+    }
+    expect(256, judged_right(record, len, entry(record, 0) + 3), "levels of an event judged right, for several observers");
+    for (size_t c = 0; c <= count + 1; c++)
+        expect(c >= 2 && c <= count ? HOOKUP_PASS : HOOKUP_MISLISTED, check_made(SEVERAL, c, 1, 1), "a number of observers");
+    column(record, count - 1)[1] = 2;
+    expect(HOOKUP_MISNUMBERED, hookup_check(record, len), "a wrong class for the last observer");
+    list[count - 1] = list[count - 2];
+    expect(HOOKUP_MISLISTED, hookup_check(record, len), "equal observers with it");
+    expect_written(hookup_closure, record, len, sizeof out, HOOKUP_MISLISTED, 0, "the closures of that");
+    expect_written(hookup_explain, record, len, sizeof out, HOOKUP_MISLISTED, 0, "the explanation of that");
+    record[HOOKUP_HEADER] = (uint8_t)(count + 1);
+    expect(HOOKUP_WRONG_SIZE, hookup_check(record, len), "the length for one observer more with both");
+}
+
 int main(void)
 {
-    static uint8_t largest[65536], smallest[64], states[65536], events[65536];
-    size_t len = make(largest, HOOKUP_MAX_STATES, HOOKUP_MAX_EVENTS);
-    expect(HOOKUP_MAX_RECORD, len, "bytes of the largest record");
-    expect(HOOKUP_MAX_BODY, len - HOOKUP_HEADER, "bytes of its body");
-    expect(HOOKUP_PASS, hookup_check(largest, len), "the largest record");
-    expect(HOOKUP_WRONG_LENGTH, hookup_check(largest, HOOKUP_HEADER), "its header alone");
-    expect(HOOKUP_TOO_SHORT, hookup_check(largest, HOOKUP_HEADER - 1), "its header without the last byte");
-    expect(HOOKUP_OUT_OF_RANGE, hookup_check(states, make(states, HOOKUP_MAX_STATES + 1, 0)), "one state too many");
-    expect(HOOKUP_OUT_OF_RANGE, hookup_check(events, make(events, 1, HOOKUP_MAX_EVENTS + 1)), "one event too many");
-
-    size_t little = make(smallest, 1, 0);
-    expect(HOOKUP_JOINED, hookup_join(largest, len, smallest, little, out, HOOKUP_MAX_RECORD), "the largest joined record");
-    expect(HOOKUP_NO_ROOM, hookup_join(largest, len, smallest, little, out, HOOKUP_MAX_RECORD - 1), "room for all but its last byte");
-
+    sizes();
+    kinds();
     closures();
     explanations();
+    observers();
     levels();
+    lists();
     return wrong;
 }

@@ -22,9 +22,10 @@ struct meaning {
 static const struct meaning meanings[] = {
     {HOOKUP_TOO_SHORT, true, "fewer than six bytes"},
     {HOOKUP_WRONG_LENGTH, true, "the length is not the number of bytes after the first six"},
-    {HOOKUP_WRONG_KIND, true, "the kind is not 1"},
+    {HOOKUP_WRONG_KIND, true, "the kind is neither 1 nor 2"},
     {HOOKUP_OUT_OF_RANGE, true, "the body is under four bytes, or the state count, start state or event count is out of range"},
     {HOOKUP_WRONG_SIZE, true, "the length is not the one for so many states and events"},
+    {HOOKUP_MISLISTED, true, "the observer count is outside 2 to 4, or the observers do not rise"},
     {HOOKUP_MISNUMBERED, true, "the classes are not numbered by first appearance"},
     {HOOKUP_MISORDERED, true, "the identifiers do not rise, or an event kind is above 2"},
     {HOOKUP_MISLABELLED, true, "a level of rank 0 has a compartment"},
@@ -95,28 +96,87 @@ static bool print_level(uint8_t level)
     return printed && putchar(')') != EOF;
 }
 
-/* Prints which is the first mislabelled level of a record that is refused for it: the observer's, or that of an event. The body begins with
- * the observer's level, the number of states, the start state and the number of events, a byte each. Behind the class bytes each event has
- * four bytes: two of its identifier, lowest first, its kind, its level. False and errno where that fails. */
-static bool print_mislabelled(const uint8_t *record)
+/* The observers of a record: whether it lists them, how many they are, and their levels, a byte each. */
+struct observers {
+    bool listed;
+    int count;
+    const uint8_t *levels;
+};
+
+/* The last two bytes of the header are the kind, lowest first. The body begins with four numbers of a byte each: the level of the only
+ * observer or how many are listed, the number of states, the start state, the number of events. The listed levels follow. */
+static struct observers observers_of(const uint8_t *record)
 {
     const uint8_t *body = record + HOOKUP_HEADER;
-    if (mislabelled(body[0]))
-        return printf(": the observer has level ") >= 0 && print_level(body[0]);
-    const uint8_t *entry = body + 4 + body[1];
-    for (int i = 0; i < body[3]; i++, entry += 4)
+    if ((record[4] | record[5] << 8) == HOOKUP_SEVERAL_OBSERVERS)
+        return (struct observers){true, body[0], body + 4};
+    return (struct observers){false, 1, body};
+}
+
+/* The entries of a record's events, four bytes each: two of the identifier, lowest first, then kind and level. Before them each observer
+ * has a class byte for each state. */
+static const uint8_t *entries_of(const uint8_t *record)
+{
+    const uint8_t *body = record + HOOKUP_HEADER;
+    struct observers all = observers_of(record);
+    return body + 4 + (all.listed ? all.count : 0) + all.count * body[1];
+}
+
+/* Prints which is the first mislabelled level of a record that is refused for it: that of an observer, or that of an event. False and errno
+ * where that fails. */
+static bool print_mislabelled(const uint8_t *record)
+{
+    struct observers all = observers_of(record);
+    for (int o = 0; o < all.count; o++)
+        if (mislabelled(all.levels[o])) {
+            bool named = all.listed ? printf(": observer %d of %d has level ", o + 1, all.count) >= 0
+                                    : printf(": the observer has level ") >= 0;
+            return named && print_level(all.levels[o]);
+        }
+    const uint8_t *entry = entries_of(record);
+    for (int i = 0; i < record[HOOKUP_HEADER + 3]; i++, entry += 4)
         if (mislabelled(entry[3]))
             return printf(": event %d has level ", entry[0] | entry[1] << 8) >= 0 && print_level(entry[3]);
     return true;
 }
 
-/* Prints an answer; where it tells of a mislabelled level, also which of this record it is. */
+static bool print_count(struct observers all)
+{
+    return printf(": the observer count is %d", all.count) >= 0;
+}
+
+/* Prints why a list of observers is refused: their number, or else the first level that is not above the one before it. False and errno
+ * where that fails. */
+static bool print_mislisted(struct observers all)
+{
+    if (all.count < 2 || all.count > HOOKUP_MAX_OBSERVERS)
+        return print_count(all);
+    for (int o = 1; o < all.count; o++)
+        if (all.levels[o] <= all.levels[o - 1])
+            return printf(": level 0x%02x comes behind 0x%02x", all.levels[o], all.levels[o - 1]) >= 0;
+    return true;
+}
+
+/* Prints what more the record tells of its refusal: its observers, where their number or their list is why, or its mislabelled level. False
+ * and errno where that fails. */
+static bool print_detail(uint32_t refusal, const uint8_t *record)
+{
+    if (refusal == HOOKUP_WRONG_SIZE && observers_of(record).listed)
+        return print_count(observers_of(record));
+    if (refusal == HOOKUP_MISLISTED)
+        return print_mislisted(observers_of(record));
+    if (refusal == HOOKUP_MISLABELLED)
+        return print_mislabelled(record);
+    return true;
+}
+
+/* Prints an answer, and what more this record tells of it. */
 static int print_refusal(uint32_t answer, const char *which, const uint8_t *record)
 {
     const struct meaning *m = find_meaning(answer);
     bool printed = printf("%" PRIu32 ": %s%s", answer, m == NULL ? "not an answer that hookup.h names" : m->words, which) >= 0;
-    if (printed && m != NULL && m->number == HOOKUP_MISLABELLED)
-        printed = print_mislabelled(record);
+    if (printed && m != NULL)
+        printed = print_detail(m->number, record);
     return after_printing(printed && putchar('\n') != EOF, REFUSED);
 }
 
@@ -222,9 +282,12 @@ static size_t record_length(const uint8_t *record)
 
 static int print_verdict(uint32_t answer, const uint8_t *record)
 {
-    if (answer == HOOKUP_PASS)
+    if (answer != HOOKUP_PASS)
+        return print_refusal(answer, "", record);
+    struct observers all = observers_of(record);
+    if (!all.listed)
         return print_done(answer, "passes");
-    return print_refusal(answer, "", record);
+    return after_printing(printf("%" PRIu32 ": passes for each of %d observers\n", answer, all.count) >= 0, DONE);
 }
 
 static int check_record(struct bytes record)
@@ -246,12 +309,33 @@ static bool print_break(const struct hookup_explanation *e)
                   e->rule == 5 ? ", even with silent steps before and after it" : "") >= 0;
 }
 
-/* Prints what hookup_explain wrote. False and errno where that fails. */
-static bool print_explanation(const struct hookup_explanation *e)
+/* Prints for which observer the rule is broken; of several also its place. False and errno where that fails. */
+static bool print_concerned(const struct hookup_explanation *e, struct observers all)
 {
-    if (e->rule != 0 && !(print_break(e) && printf("observer's level: 0x%02" PRIx64 "\n", e->observer) >= 0))
+    if (!all.listed)
+        return printf("observer's level: 0x%02" PRIx64 "\n", e->observer) >= 0;
+    int place = 0;
+    while (place < all.count - 1 && all.levels[place] != e->observer)
+        place++;
+    return printf("first observer concerned: 0x%02" PRIx64 ", number %d of %d\n", e->observer, place + 1, all.count) >= 0;
+}
+
+/* Prints how many states were taken up; of several observers also for which: that of the break, or the first where the part passes. False
+ * and errno where that fails. */
+static bool print_taken(const struct hookup_explanation *e, struct observers all)
+{
+    if (!all.listed)
+        return printf("states taken up: %" PRIu64 "\n", e->taken) >= 0;
+    uint64_t observer = e->rule == 0 ? all.levels[0] : e->observer;
+    return printf("states taken up for observer 0x%02" PRIx64 ": %" PRIu64 "\n", observer, e->taken) >= 0;
+}
+
+/* Prints what hookup_explain wrote for a record with these observers. False and errno where that fails. */
+static bool print_explanation(const struct hookup_explanation *e, struct observers all)
+{
+    if (e->rule != 0 && !(print_break(e) && print_concerned(e, all)))
         return false;
-    return printf("states taken up: %" PRIu64 "\n", e->taken) >= 0;
+    return print_taken(e, all);
 }
 
 /* Prints what check prints and, where the record is not refused, the explanation. */
@@ -263,7 +347,7 @@ static int explain_record(struct bytes record)
     bool written = answer == HOOKUP_PASS || answer > HOOKUP_BREAK;
     if (status == TROUBLE || !written)
         return status;
-    return after_printing(print_explanation(&explanation), status);
+    return after_printing(print_explanation(&explanation, observers_of(record.at)), status);
 }
 
 /* The number of states in a set of 64 bits. */
@@ -291,17 +375,31 @@ static bool print_visits(int s, const uint8_t *piece)
     return printed && putchar('\n') != EOF;
 }
 
-/* Prints a line for each state of a record that is not refused. The number of states is the second byte of the body. */
+/* Prints a line for each state, from the pieces of one observer. False and errno where that fails. */
+static bool print_block(int states, const uint8_t *pieces)
+{
+    bool printed = true;
+    for (int s = 0; printed && s < states; s++)
+        printed = print_visits(s, pieces + s * HOOKUP_CLOSURE_PIECE);
+    return printed;
+}
+
+/* Prints the closures of a record that is not refused, for each observer; of several also a line with the observer's level before them. The
+ * number of states is the second byte of the body. */
 static int print_closures(struct bytes record)
 {
     uint8_t pieces[HOOKUP_MAX_CLOSURE];
     uint32_t answer = hookup_closure(record.at, record.len, pieces, sizeof pieces);
     if (answer != HOOKUP_CLOSED)
         return print_refusal(answer, "", record.at);
+    struct observers all = observers_of(record.at);
     int states = record.at[HOOKUP_HEADER + 1];
     bool printed = true;
-    for (int s = 0; printed && s < states; s++)
-        printed = print_visits(s, pieces + s * HOOKUP_CLOSURE_PIECE);
+    for (int o = 0; printed && o < all.count; o++) {
+        if (all.listed)
+            printed = printf("observer 0x%02x:\n", all.levels[o]) >= 0;
+        printed = printed && print_block(states, pieces + o * states * HOOKUP_CLOSURE_PIECE);
+    }
     return after_printing(printed, DONE);
 }
 

@@ -6,36 +6,43 @@
 #include <stddef.h>
 #include <stdint.h>
 
-/* Sizes. A record is a header and a body; the header's first four bytes are the length of the body, little-endian. */
+/* Sizes. A record is a header and a body; the header's first four bytes are the length of the body, the other two the kind of the record,
+ * both little-endian. */
+#define HOOKUP_MAX_OBSERVERS 4
 #define HOOKUP_MAX_STATES 64
 #define HOOKUP_MAX_EVENTS 32
 #define HOOKUP_HEADER 6         /* bytes */
-#define HOOKUP_MAX_BODY 16580   /* bytes, with most states and most events */
-#define HOOKUP_MAX_RECORD 16586 /* bytes of header and body; every joined record fits */
+#define HOOKUP_MAX_BODY 16776   /* bytes, with most observers, states and events */
+#define HOOKUP_MAX_RECORD 16782 /* bytes of header and body; every joined record fits */
 #define HOOKUP_CLOSURE_SET 8     /* bytes of the set with which a state's piece begins */
 #define HOOKUP_CLOSURE_VISITS 64 /* bytes of its visits, and again of their distances */
-#define HOOKUP_CLOSURE_PIECE 136 /* bytes that hookup_closure writes for a state: set, visits, distances */
-#define HOOKUP_MAX_CLOSURE 8704  /* bytes that it writes for most states */
+#define HOOKUP_CLOSURE_PIECE 136 /* bytes that hookup_closure writes for an observer and a state: set, visits, distances */
+#define HOOKUP_MAX_CLOSURE 34816 /* bytes that it writes for most observers and most states */
 #define HOOKUP_EXPLANATION 64    /* bytes that hookup_explain writes */
 
+/* Kinds of record. The number of states is the record's byte HOOKUP_HEADER + 1 in both. */
+#define HOOKUP_ONE_OBSERVER 1      /* byte HOOKUP_HEADER is the observer's level */
+#define HOOKUP_SEVERAL_OBSERVERS 2 /* byte HOOKUP_HEADER is their number; their levels are listed from byte HOOKUP_HEADER + 4 on */
+
 /* Answers: done. */
-#define HOOKUP_PASS 0   /* of hookup_check and hookup_explain: no refusal applies and all five rules hold */
+#define HOOKUP_PASS 0   /* of hookup_check and hookup_explain: no refusal applies and all five rules hold for each observer */
 #define HOOKUP_JOINED 0 /* of hookup_join: the joined record is written */
 #define HOOKUP_CLOSED 0 /* of hookup_closure: the closures are written */
 
 /* Answers: refusals of a record, tested in this order, which is not that of the numbers. */
 #define HOOKUP_TOO_SHORT 1    /* fewer bytes than a header has */
 #define HOOKUP_WRONG_LENGTH 2 /* the length field is not the number of bytes behind the header */
-#define HOOKUP_WRONG_KIND 3   /* the kind of the record is not 1, a part */
+#define HOOKUP_WRONG_KIND 3   /* the kind of the record is neither HOOKUP_ONE_OBSERVER nor HOOKUP_SEVERAL_OBSERVERS */
 #define HOOKUP_OUT_OF_RANGE 4 /* a body under four bytes, or number of states, start state or number of events out of range */
-#define HOOKUP_WRONG_SIZE 5   /* the length is not that of so many states and events */
-#define HOOKUP_MISNUMBERED 6  /* the classes are not numbered by first appearance */
+#define HOOKUP_WRONG_SIZE 5   /* the length is not that of so many observers, states and events */
+#define HOOKUP_MISLISTED 20   /* the listed observers are not 2 to HOOKUP_MAX_OBSERVERS, or their levels, as bytes, do not rise strictly */
+#define HOOKUP_MISNUMBERED 6  /* the classes for an observer are not numbered by first appearance */
 #define HOOKUP_MISORDERED 7   /* the identifiers do not rise, or an event's kind is above 2 */
-#define HOOKUP_MISLABELLED 16 /* the observer's level or that of an event has rank 0 and a compartment */
+#define HOOKUP_MISLABELLED 16 /* the level of an observer or of an event has rank 0 and a compartment */
 #define HOOKUP_STRAY_BIT 8    /* a row has a bit for a state that is not there */
 
 /* Answers: refusals of two passing parts, tested in this order. */
-#define HOOKUP_OBSERVERS_DIFFER 9
+#define HOOKUP_OBSERVERS_DIFFER 9 /* the records have not as many observers, or not of the same levels */
 #define HOOKUP_CLASH 10     /* a shared event clashes in kind or level */
 #define HOOKUP_TOO_LARGE 11 /* more than HOOKUP_MAX_STATES states or HOOKUP_MAX_EVENTS events together */
 #define HOOKUP_NO_ROOM 15   /* the buffer is shorter than what is to be written; of hookup_closure and hookup_explain too */
@@ -50,19 +57,19 @@ extern "C" {
 
 /* Checks one part record of len bytes.
  *
- * Answers HOOKUP_PASS; the first refusal of a record that applies to the bytes; or HOOKUP_BREAK plus the first broken
- * rule. Any bytes of any length are taken, and nothing is written.
+ * Answers HOOKUP_PASS; the first refusal of a record that applies to the bytes; or HOOKUP_BREAK plus the first rule that is broken for the
+ * first observer, in the order of the record, for whom one is. Any bytes of any length are taken, and nothing is written.
  *
  * record may be null only where len is 0; otherwise it points to len readable bytes. The call reads nothing else, keeps
  * nothing, takes no lock, and may be made by several threads at once. It needs less
- * than 10 KB of stack: 4,872 bytes were measured on records of 64 states and 32 events, 8,040 on a first call, in which the loader
+ * than 10 KB of stack: 4,920 bytes were measured on records of 64 states and 32 events, 8,056 on a first call, in which the loader
  * resolves memset. */
 uint32_t hookup_check(const uint8_t *record, size_t len);
 
 /* Joins the parts of two records, a and b, and writes the joined record to the start of out.
  *
- * Answers HOOKUP_JOINED if it did; how long the record is, its header says. Otherwise nothing is written, and the answer is the
- * first of these that applies:
+ * Answers HOOKUP_JOINED if it did; how long the record is, its header says, and its kind and observers are those of both. Otherwise
+ * nothing is written, and the answer is the first of these that applies:
  *   what hookup_check says of a, where a does not pass
  *   HOOKUP_SECOND plus what it says of b, where b does not pass
  *   HOOKUP_OBSERVERS_DIFFER, HOOKUP_CLASH, HOOKUP_TOO_LARGE
@@ -71,14 +78,14 @@ uint32_t hookup_check(const uint8_t *record, size_t len);
  *
  * out may not overlap a record; a and b may be the same bytes. A pointer may be null only where its length is 0. The call reads and
  * writes nothing else, keeps nothing, takes no lock, and may be made by several threads at once. It needs less than
- * 12 KB of stack: 7,496 bytes were measured on full records, 9,256 on a first call. */
+ * 12 KB of stack: 7,784 bytes were measured on full records, 10,936 on a first call. */
 uint32_t hookup_join(const uint8_t *a, size_t alen, const uint8_t *b, size_t blen, uint8_t *out, size_t outlen);
 
-/* Writes, for a debugger, where silent steps lead from each state of a part, for the record's own observer. An event is silent if it is a
- * high output or, at any level, internal.
+/* Writes, for a debugger, where silent steps lead from each state of a part, for each observer of the record. An event is silent if it is
+ * a high output or, at any level, internal.
  *
- * Answers HOOKUP_CLOSED if it did. out then begins with a piece of HOOKUP_CLOSURE_PIECE bytes for each state s, in the order of the
- * states, whose number is the record's byte HOOKUP_HEADER + 1:
+ * Answers HOOKUP_CLOSED if it did. out then begins with a block for each observer, in the order of the record; the kind says how many
+ * there are. A block has a piece of HOOKUP_CLOSURE_PIECE bytes for each state s, in the order of the states:
  *   8 bytes   the silent closure of s as a set, lowest byte first: bit t is set where silent steps lead from s to t, and bit s always
  *   64 bytes  the visits, a state in each: the states of the set, each once, then zeros. They go by the least number of silent steps from
  *             s, the lowest state first among equals; so s is the first
@@ -91,21 +98,22 @@ uint32_t hookup_join(const uint8_t *a, size_t alen, const uint8_t *b, size_t ble
  * The bytes of out behind the last piece stay as they were.
  *
  * out may not overlap the record. A pointer may be null only where its length is 0. The call reads and writes nothing else, keeps
- * nothing, takes no lock, and may be made by several threads at once. It needs less than 6 KB of stack: 872 bytes were measured on
- * records of 64 states and 32 events, 4,008 on a first call. */
+ * nothing, takes no lock, and may be made by several threads at once. It needs less than 6 KB of stack: 784 bytes were measured on
+ * records of 64 states and 32 events, 3,896 on a first call. */
 uint32_t hookup_closure(const uint8_t *record, size_t len, uint8_t *out, size_t outlen);
 
 /* What hookup_explain writes: eight numbers of eight bytes, lowest byte first, as they lie in memory on x86-64. Where the part passes, the
- * first five are 0. */
+ * first five are 0. Otherwise they are the first break by observer, in the order of the record, then by rule, event, s, t and u. Rule 1 is
+ * the same for all observers, so that a break of it tells the first one. */
 struct hookup_explanation {
-    uint64_t rule;     /* the first broken rule, 1 to 5 */
+    uint64_t rule;     /* the broken rule, 1 to 5 */
     uint64_t event;    /* the identifier of the event that breaks it */
     uint64_t s;        /* the states of the break; t is 0 for rule 1, and u for rules 1 and 2 */
     uint64_t t;
     uint64_t u;
-    uint64_t taken;    /* how many states were taken up: the sizes of the silent closures of all states together, where the part passes
-                          or breaks rule 4 or 5; otherwise 0 */
-    uint64_t observer; /* the observer's level, where a rule is broken; 0 where the part passes */
+    uint64_t taken;    /* how many states were taken up: the sizes of the silent closures of all states together, for the first observer
+                          of the record where the part passes, for the observer of the break where rule 4 or 5 is broken; otherwise 0 */
+    uint64_t observer; /* the level of the observer of the break; 0 where the part passes */
     uint64_t limit;    /* 1 where the part passes; 0 where a rule is broken */
 };
 
@@ -116,8 +124,8 @@ struct hookup_explanation {
  * bytes than that, the answer for a pass or a break is HOOKUP_NO_ROOM and nothing is written.
  *
  * out may not overlap the record. A pointer may be null only where its length is 0. The call reads and writes nothing else, keeps
- * nothing, takes no lock, and may be made by several threads at once. It needs less than 10 KB of stack: 4,904 bytes were
- * measured on records of 64 states and 32 events, 8,040 on a first call. */
+ * nothing, takes no lock, and may be made by several threads at once. It needs less than 10 KB of stack: 4,936 bytes were
+ * measured on records of 64 states and 32 events, 8,120 on a first call. */
 uint32_t hookup_explain(const uint8_t *record, size_t len, uint8_t *out, size_t outlen);
 
 #ifdef __cplusplus

@@ -3,11 +3,11 @@
 use crate::closure::PIECE;
 use crate::dice::Dice;
 use crate::inputs::{span, Event, Inputs, Table, HIGH, INPUT, LOW};
-use crate::{Version, SEVERAL};
+use crate::Version;
 use std::collections::BTreeMap;
 
 /// Longer than any output.
-const ROOM: usize = if SEVERAL { 35_000 } else { 16_700 };
+const ROOM: usize = 35_000;
 
 /// Bytes of an explanation.
 const EXPLANATION: usize = 64;
@@ -17,6 +17,8 @@ const EXPLANATION: usize = 64;
 #[derive(Default)]
 pub struct Score {
     versions: &'static [Version],
+    /// What a buffer holds before a call.
+    before: Vec<u8>,
     pub checks: BTreeMap<u32, usize>,
     pub explanations: BTreeMap<u32, usize>,
     pub joins: BTreeMap<u32, usize>,
@@ -28,7 +30,7 @@ pub struct Score {
 
 impl Score {
     pub fn of(versions: &'static [Version]) -> Self {
-        Score { versions, ..Score::default() }
+        Score { versions, before: (0..ROOM).map(|i| (i * 7 + 3) as u8).collect(), ..Score::default() }
     }
 
     fn fault(&mut self, what: String) {
@@ -78,16 +80,16 @@ impl Score {
 
     /// A call that is lent so many bytes: the answers, and every byte of a longer buffer.
     fn output(&mut self, what: &str, room: usize, call: impl Fn(&Version, &mut [u8]) -> u32) -> u32 {
-        let before: Vec<u8> = (0..ROOM).map(|i| (i * 7 + 3) as u8).collect();
-        let mut wanted = before.clone();
+        let mut wanted = self.before.clone();
         let first = &self.versions[0];
         let answer = call(first, &mut wanted[..room]);
         for version in &self.versions[1..] {
-            let mut bytes = before.clone();
+            let mut bytes = self.before.clone();
             let other = call(version, &mut bytes[..room]);
             if other != answer {
                 self.fault(format!("{what}: {} {answer}, {} {other}", first.name, version.name));
-            } else if let Some(place) = (0..ROOM).find(|&i| bytes[i] != wanted[i]) {
+            } else if bytes != wanted {
+                let place = (0..ROOM).find(|&i| bytes[i] != wanted[i]).unwrap();
                 self.fault(format!("{what}: byte {place} is {}, in {} {}", wanted[place], version.name, bytes[place]));
             }
         }
@@ -253,9 +255,8 @@ fn classes(dice: &mut Dice, n: usize) -> Vec<u8> {
 fn grouped(dice: &mut Dice, n: usize, observers: &[u8]) -> Table {
     let classes = classes(dice, n);
     let seen = classes.iter().fold(0, |seen, &class| seen.max(class as usize + 1));
-    let members: Vec<u64> = (0..seen)
-        .map(|class| (0..n).filter(|&s| classes[s] as usize == class).fold(0, |set, s| set | 1 << s))
-        .collect();
+    let members: Vec<u64> =
+        (0..seen).map(|class| (0..n).filter(|&s| classes[s] as usize == class).fold(0, |set, s| set | 1 << s)).collect();
     let mut table = Table::new(classes.clone());
     let observer = observers[0];
     table.observer = observer;
@@ -289,7 +290,9 @@ fn grouped(dice: &mut Dice, n: usize, observers: &[u8]) -> Table {
             .collect();
         let mut rows: Vec<u64> = (0..n)
             .map(|s| {
-                (0..seen).filter(|&class| goals[classes[s] as usize] >> class & 1 == 1).fold(0, |row, class| row | dice.some(members[class]))
+                (0..seen)
+                    .filter(|&class| goals[classes[s] as usize] >> class & 1 == 1)
+                    .fold(0, |row, class| row | dice.some(members[class]))
             })
             .collect();
         if thin && kind != INPUT && dice.one_in(4) {

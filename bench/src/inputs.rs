@@ -9,6 +9,12 @@ pub const INPUT: u8 = 0;
 pub const OUTPUT: u8 = 1;
 pub const INTERNAL: u8 = 2;
 
+/// The observers of the timed lists. Each sees what the one before sees, and more.
+const RANKS: [u8; 4] = [0x00, 0x40, 0x80, 0xc0];
+
+/// High for all of them.
+const ABOVE: u8 = 0xc1;
+
 /// A part before it becomes a record. With further observers, each with its classes, the record is of kind 2.
 #[derive(Clone)]
 pub struct Table {
@@ -50,6 +56,14 @@ impl Table {
         self
     }
 
+    /// The same for an observer with each of these class columns.
+    fn listed(mut self, columns: Vec<Vec<u8>>) -> Self {
+        let mut views = RANKS.into_iter().zip(columns);
+        (self.observer, self.classes) = views.next().unwrap();
+        self.further = views.collect();
+        self
+    }
+
     fn last_row(&mut self, back: usize) -> &mut u64 {
         let n = self.n();
         &mut self.events.last_mut().unwrap().rows[n - back]
@@ -59,6 +73,12 @@ impl Table {
     pub fn views(&self) -> Vec<(u8, &[u8])> {
         let further = self.further.iter().map(|(observer, classes)| (*observer, &classes[..]));
         std::iter::once((self.observer, &self.classes[..])).chain(further).collect()
+    }
+
+    /// The record of each observer alone.
+    pub fn alone(&self) -> Vec<Vec<u8>> {
+        let one = |(observer, classes): (u8, &[u8])| Table { observer, classes: classes.to_vec(), further: vec![], ..self.clone() };
+        self.views().into_iter().map(|view| one(view).record()).collect()
     }
 
     pub fn record(&self) -> Vec<u8> {
@@ -95,28 +115,38 @@ impl Table {
     }
 }
 
-/// A record for Check, its closures or its explanation, with the answer it is made for.
+/// A record for Check, its closures or its explanation, with the answer it is made for. With several observers it also has the record of each
+/// alone.
 pub struct One {
     pub family: &'static str,
     pub n: usize,
     pub m: usize,
     pub answer: u32,
     pub record: Vec<u8>,
+    pub alone: Vec<Vec<u8>>,
 }
 
 impl One {
+    fn new(family: &'static str, answer: u32, table: Table) -> Self {
+        let alone = if table.further.is_empty() { vec![] } else { table.alone() };
+        One { family, n: table.n(), m: table.events.len(), answer, record: table.record(), alone }
+    }
+
     pub fn name(&self) -> String {
         format!("{} n={} m={}", self.family, self.n, self.m)
     }
 }
 
-/// Two records for Join, with the answer they are made for; n is the number of pairs of states.
+/// Two records for Join, with the answer they are made for; n is the number of pairs of states. With several observers there are also the two
+/// records of each alone.
 pub struct Pair {
+    pub family: &'static str,
     pub name: String,
     pub n: usize,
     pub answer: u32,
     pub a: Vec<u8>,
     pub b: Vec<u8>,
+    pub alone: Vec<(Vec<u8>, Vec<u8>)>,
 }
 
 /// The states of a range, as a set.
@@ -135,6 +165,12 @@ fn single(n: usize) -> Vec<u8> {
 /// State s and state s + n / 2 share a class.
 fn pairs(n: usize) -> Vec<u8> {
     (0..n).map(|s| (s % (n / 2)) as u8).collect()
+}
+
+/// The same, but the last two states have classes of their own.
+fn pairs_before(n: usize) -> Vec<u8> {
+    let half = n / 2 - 1;
+    (0..n).map(|s| if s < 2 * half { s % half } else { s - half } as u8).collect()
 }
 
 /// Each state has its own class, but the last two share one.
@@ -199,6 +235,56 @@ const EXPLANATIONS: &[Family] = &[
     ("explain rule 4", 104, late4),
     ("explain rule 5", 105, late5),
 ];
+
+/// A family with two observers and one with four, which sizes are made alike.
+type ListFamily = (&'static str, &'static str, u32, fn(usize, usize, usize) -> Table);
+
+const LISTS: &[ListFamily] = &[
+    ("two full output", "four full output", 0, |n, m, count| full(pairs(n), m, OUTPUT, LOW).listed(vec![pairs(n); count])),
+    ("two full input", "four full input", 0, |n, m, count| full(pairs(n), m, INPUT, LOW).listed(vec![pairs(n); count])),
+    ("two full silent", "four full silent", 0, |n, m, count| full(single(n), m, OUTPUT, ABOVE).listed(vec![single(n); count])),
+    ("two line up", "four line up", 0, |n, m, count| up(n, m).listed(vec![single(n); count])),
+    ("two sparse ranks", "four sparse ranks", 0, ranks),
+    ("two columns", "four columns", 0, columns),
+    ("two late rule 5", "four late rule 5", 105, late5_last),
+];
+
+/// The records with several observers whose closures are timed.
+const CLOSURES_OF_LISTS: &[ListFamily] = &[
+    ("closure two up", "closure four up", 0, |n, m, count| up(n, m).listed(vec![single(n); count])),
+    ("closure two full", "closure four full", 0, |n, m, count| full(single(n), m, OUTPUT, ABOVE).listed(vec![single(n); count])),
+    ("closure two ranks", "closure four ranks", 0, ranks),
+];
+
+/// The records with several observers whose explanations are timed.
+const EXPLANATIONS_OF_LISTS: &[ListFamily] = &[
+    ("explain two output", "explain four output", 0, |n, m, count| full(pairs(n), m, OUTPUT, LOW).listed(vec![pairs(n); count])),
+    ("explain two rule 5", "explain four rule 5", 105, late5_last),
+];
+
+/// Every kind and every observer's level, one step for each state: each observer sees other events. Inputs stay in their class where they are
+/// high for one of them.
+fn ranks(n: usize, m: usize, count: usize) -> Table {
+    let mut table = Table::new(pairs(n));
+    for e in 0..m {
+        let (kind, level) = ((e % 3) as u8, [RANKS[0], RANKS[1], RANKS[2], RANKS[3], ABOVE][e / 3 % 5]);
+        let far = if kind == INPUT && level != LOW { n / 2 - 1 } else { e };
+        table.add(kind, level, |s| turn(n, far, s));
+    }
+    table.listed(vec![pairs(n); count])
+}
+
+/// Full low outputs, and another grouping for each observer.
+fn columns(n: usize, m: usize, count: usize) -> Table {
+    full(own(n), m, OUTPUT, LOW).listed([own(n), pairs(n), single(n), pairs_before(n)][..count].to_vec())
+}
+
+/// Breaks rule 5 as `late5` does, for the last observer alone; the others go through all of the table.
+fn late5_last(n: usize, m: usize, count: usize) -> Table {
+    let mut list = vec![pairs_before(n); count];
+    list[count - 1] = last_two(n);
+    late5(n, m).listed(list)
+}
 
 /// Silent steps from each state to the next, in one class.
 fn up(n: usize, m: usize) -> Table {
@@ -320,6 +406,10 @@ impl Inputs {
             joins: joins(),
             closures: sized("closure tiny", CLOSURES, ns, ms),
         };
+        inputs.checks.extend(listed(["two tiny", "four tiny"], LISTS, ns, ms));
+        inputs.explanations.extend(listed(["explain two tiny", "explain four tiny"], EXPLANATIONS_OF_LISTS, ns, ms));
+        inputs.joins.extend(joins_of_lists());
+        inputs.closures.extend(listed(["closure two tiny", "closure four tiny"], CLOSURES_OF_LISTS, ns, ms));
         for ones in [&mut inputs.checks, &mut inputs.explanations, &mut inputs.closures] {
             ones.retain(|one| one.name().contains(text));
         }
@@ -332,13 +422,31 @@ impl Inputs {
 fn sized(tiny: &'static str, families: &[Family], ns: &[usize], ms: &[usize]) -> Vec<One> {
     let mut ones = Vec::new();
     for table in [tiny1(), tiny2(), tiny3()] {
-        ones.push(One { family: tiny, n: table.n(), m: table.events.len(), answer: 0, record: table.record() });
+        ones.push(One::new(tiny, 0, table));
     }
     for &(family, answer, make) in families {
         for &n in ns {
             for &m in ms {
-                ones.push(One { family, n, m, answer, record: make(n, m).record() });
+                ones.push(One::new(family, answer, make(n, m)));
             }
+        }
+    }
+    ones
+}
+
+/// The tiny records for two observers and for four, then each family in the least, the middle and the largest size.
+fn listed(tiny: [&'static str; 2], families: &[ListFamily], ns: &[usize], ms: &[usize]) -> Vec<One> {
+    let mut sizes: Vec<(usize, usize)> =
+        [(0, 0), (ns.len() / 2, ms.len() / 2), (ns.len() - 1, ms.len() - 1)].map(|(i, j)| (ns[i], ms[j])).into();
+    sizes.dedup();
+    let mut ones = Vec::new();
+    for (k, count) in [2, 4].into_iter().enumerate() {
+        for table in [tiny1(), tiny2(), tiny3()] {
+            let column = table.classes.clone();
+            ones.push(One::new(tiny[k], 0, table.listed(vec![column; count])));
+        }
+        for &(two, four, answer, make) in families {
+            ones.extend(sizes.iter().map(|&(n, m)| One::new([two, four][k], answer, make(n, m, count))));
         }
     }
     ones
@@ -346,20 +454,11 @@ fn sized(tiny: &'static str, families: &[Family], ns: &[usize], ms: &[usize]) ->
 
 fn joins() -> Vec<Pair> {
     let mut list = Vec::new();
-    let mut push = |name: &str, answer, a: &Table, b: &Table| {
-        list.push(Pair { name: name.to_string(), n: a.n() * b.n(), answer, a: a.record(), b: b.record() });
-    };
+    let mut push = |name: &str, answer, a: &Table, b: &Table| list.push(pair(name, answer, a, b));
     push("tiny x tiny", 0, &tiny1(), &tiny1());
     push("tiny 2 x 1, one shared", 0, &tiny2(), &reader());
-    for (shape, is_full) in [("full", true), ("sparse", false)] {
-        let part = |n: usize, m: usize, kind: u8, first: u16| {
-            let classes = if n == 1 { single(1) } else { pairs(n) };
-            let mut table = Table::new(classes).with(m, kind, LOW, |e, s| if is_full { span(0..n) } else { turn(n, e, s) });
-            for (e, event) in table.events.iter_mut().enumerate() {
-                event.id = first + 2 * e as u16;
-            }
-            table
-        };
+    for shape in ["full", "sparse"] {
+        let part = |n: usize, m: usize, kind: u8, first: u16| side(shape, n, m, kind, first);
         for (na, nb) in [(8, 8), (64, 1), (1, 64), (32, 2), (2, 32)] {
             let (a, mut b) = (part(na, 32, OUTPUT, 0), part(nb, 32, INPUT, 0));
             push(&format!("{shape} {na} x {nb}, 32 shared"), 0, &a, &b);
@@ -374,6 +473,51 @@ fn joins() -> Vec<Pair> {
         push(&format!("{shape} 64 x 2, too many states"), 11, &part(64, 16, OUTPUT, 0), &part(2, 16, INPUT, 1));
     }
     list
+}
+
+/// Joins of two observers and of four. B has another grouping for each second one.
+fn joins_of_lists() -> Vec<Pair> {
+    let mut list = Vec::new();
+    for (name, count) in [("two", 2), ("four", 4)] {
+        let same = |table: Table| {
+            let columns = vec![table.classes.clone(); count];
+            table.listed(columns)
+        };
+        let other = |table: Table| {
+            let columns = (0..count).map(|i| if i % 2 == 0 { table.classes.clone() } else { single(table.n()) }).collect();
+            table.listed(columns)
+        };
+        list.push(pair(&format!("{name}, tiny x tiny"), 0, &same(tiny1()), &same(tiny1())));
+        for shape in ["full", "sparse"] {
+            for (na, nb) in [(8, 8), (64, 1)] {
+                let (a, b) = (same(side(shape, na, 32, OUTPUT, 0)), other(side(shape, nb, 32, INPUT, 0)));
+                list.push(pair(&format!("{name}, {shape} {na} x {nb}, 32 shared"), 0, &a, &b));
+            }
+            let (a, mut b) = (same(side(shape, 8, 16, OUTPUT, 0)), other(side(shape, 8, 16, INPUT, 1)));
+            list.push(pair(&format!("{name}, {shape} 8 x 8, 16 + 16"), 0, &a, &b));
+            b.further.last_mut().unwrap().0 = 0xff;
+            list.push(Pair { alone: vec![], ..pair(&format!("{name}, {shape} 8 x 8, the last observers differ"), 9, &a, &b) });
+        }
+    }
+    list
+}
+
+fn pair(name: &str, answer: u32, a: &Table, b: &Table) -> Pair {
+    let (family, alone) = match a.further.is_empty() {
+        true => ("join", vec![]),
+        false => ("join of lists", a.alone().into_iter().zip(b.alone()).collect()),
+    };
+    Pair { family, name: name.to_string(), n: a.n() * b.n(), answer, a: a.record(), b: b.record(), alone }
+}
+
+/// A part of a pair, whose events have each second identifier from the first on.
+fn side(shape: &str, n: usize, m: usize, kind: u8, first: u16) -> Table {
+    let classes = if n == 1 { single(1) } else { pairs(n) };
+    let mut table = Table::new(classes).with(m, kind, LOW, |e, s| if shape == "full" { span(0..n) } else { turn(n, e, s) });
+    for (e, event) in table.events.iter_mut().enumerate() {
+        event.id = first + 2 * e as u16;
+    }
+    table
 }
 
 /// One state that takes the output of `tiny2`.

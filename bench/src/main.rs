@@ -34,13 +34,14 @@ struct Flags {
     spin: Option<usize>,
 }
 
-/// One line of the table, with a time for each version.
+/// One line of the table, with a time for each version. With several observers it also has the times of each alone together.
 struct Line {
     name: String,
     family: &'static str,
     n: usize,
     m: usize,
     times: [Time; 3],
+    alone: Option<[Time; 3]>,
 }
 
 impl Line {
@@ -50,6 +51,11 @@ impl Line {
 
     fn ratio_to_faster(&self) -> f64 {
         self.ratio(1).max(self.ratio(2))
+    }
+
+    /// A version's time for several observers by its times for each alone together.
+    fn ratio_to_alone(&self, version: usize) -> Option<f64> {
+        Some(self.times[version].best / self.alone?[version].best)
     }
 }
 
@@ -72,12 +78,8 @@ pub static VERSIONS: [Version; 3] = [
     Version { name: "sharp", check: fast::check_sharp, explain: fast::explain_sharp, join: fast::join_sharp, closure: fast::closure_sharp },
 ];
 
-/// Whether records with several observers (kind 2) are described so far: in the unverified versions, in the comparison and in the buffers. The
-/// tests have them in any case.
-pub const SEVERAL: bool = cfg!(test);
-
-/// The longest output has so many bytes: the longest record, or the blocks of closures of four observers.
-const LONGEST: usize = if SEVERAL { 4 * 64 * closure::PIECE } else { 16_586 };
+/// The longest output, the closures of four observers, has so many bytes.
+const LONGEST: usize = 4 * 64 * closure::PIECE;
 
 /// From so many states on a record is not tiny.
 const SMALL: usize = 8;
@@ -105,13 +107,14 @@ fn main() {
     let joins = time_joins(plan, &inputs.joins);
     let closures = time_writer(plan, "closure", &inputs.closures, |version| version.closure);
     if flags.only.is_empty() {
-        growth(checks.iter().chain(&closures), ns, ms);
+        growth(checks.iter().chain(&closures).filter(|line| line.alone.is_none()), ns, ms);
     }
     if let Some(program) = &flags.verdict {
         end_to_end(program, &inputs.checks, if flags.quick { 50 } else { 300 });
     }
     let calls = [("check", checks), ("explain", explanations), ("join", joins), ("closure", closures)];
     by_family(&calls);
+    by_observer(&calls);
     sum_up(&calls);
 }
 
@@ -141,18 +144,15 @@ fn compare(inputs: &Inputs, rounds: usize) {
     let mut score = Score::of(&VERSIONS);
     score.timed(inputs);
     score.random(1, rounds, false);
-    if SEVERAL {
-        score.random(2, rounds, true);
-    }
+    score.random(2, rounds, true);
     println!("Compared with the library, as answer:times");
-    let answers = [("checks", &score.checks), ("explanations", &score.explanations), ("joins", &score.joins), ("closures", &score.closures)];
+    let answers =
+        [("checks", &score.checks), ("explanations", &score.explanations), ("joins", &score.joins), ("closures", &score.closures)];
     for (calls, counts) in answers {
         show_counts(calls, counts, " ");
     }
     show_counts("of these parts mislabelled on purpose", &score.mislabelled, ", ");
-    if SEVERAL {
-        show_counts("records with several observers spoilt on purpose", &score.spoilt, ", ");
-    }
+    show_counts("records with several observers spoilt on purpose", &score.spoilt, ", ");
     if score.differences > 0 {
         println!("{} differences", score.differences);
         exit(1);
@@ -174,7 +174,7 @@ fn spin(inputs: &Inputs, calls: usize) {
         repeat_writer(library.explain, &one.record, &mut out, calls);
     }
     for pair in &inputs.joins {
-        repeat_join(library, pair, &mut out, calls);
+        repeat_join(library, &pair.a, &pair.b, &mut out, calls);
     }
     for one in &inputs.closures {
         repeat_writer(library.closure, &one.record, &mut out, calls);
@@ -187,9 +187,9 @@ fn repeat_check(version: &Version, record: &[u8], calls: usize) {
     }
 }
 
-fn repeat_join(version: &Version, pair: &Pair, out: &mut [u8], calls: usize) {
+fn repeat_join(version: &Version, a: &[u8], b: &[u8], out: &mut [u8], calls: usize) {
     for _ in 0..calls {
-        black_box((version.join)(black_box(&pair.a), black_box(&pair.b), black_box(out)));
+        black_box((version.join)(black_box(a), black_box(b), black_box(out)));
     }
 }
 
@@ -203,17 +203,17 @@ fn time_check(plan: Plan, record: &[u8]) -> [Time; 3] {
     race(plan, VERSIONS.each_ref().map(|version| move |calls| repeat_check(version, record, calls)))
 }
 
-fn time_join(plan: Plan, pair: &Pair) -> [Time; 3] {
+fn time_join(plan: Plan, a: &[u8], b: &[u8]) -> [Time; 3] {
     let job = |version| {
         let mut out = vec![0; LONGEST];
-        move |calls| repeat_join(version, pair, &mut out, calls)
+        move |calls| repeat_join(version, a, b, &mut out, calls)
     };
     race(plan, VERSIONS.each_ref().map(job))
 }
 
 fn time_checks(plan: Plan, ones: &[One]) -> Vec<Line> {
     heading("check");
-    ones.iter().map(|one| line_of(one, time_check(plan, &one.record))).collect()
+    ones.iter().map(|one| time_one(one, |record| time_check(plan, record))).collect()
 }
 
 fn time_writer(plan: Plan, title: &str, ones: &[One], writer: fn(&Version) -> Writer) -> Vec<Line> {
@@ -225,23 +225,32 @@ fn time_writer(plan: Plan, title: &str, ones: &[One], writer: fn(&Version) -> Wr
         };
         race(plan, VERSIONS.each_ref().map(job))
     };
-    ones.iter().map(|one| line_of(one, time(&one.record))).collect()
+    ones.iter().map(|one| time_one(one, time)).collect()
 }
 
-fn line_of(one: &One, times: [Time; 3]) -> Line {
-    let line = Line { name: one.name(), family: one.family, n: one.n, m: one.m, times };
+fn time_one<'a>(one: &'a One, time: impl Fn(&'a [u8]) -> [Time; 3]) -> Line {
+    let times = time(&one.record);
+    let alone = sum(one.alone.iter().map(|record| time(record)));
+    let line = Line { name: one.name(), family: one.family, n: one.n, m: one.m, times, alone };
     show(&line, &one.answer.to_string());
     line
+}
+
+/// The times together, where there are any.
+fn sum(all: impl Iterator<Item = [Time; 3]>) -> Option<[Time; 3]> {
+    let add = |x: Time, y: Time| Time { best: x.best + y.best, median: x.median + y.median };
+    all.reduce(|x, y| std::array::from_fn(|k| add(x[k], y[k])))
 }
 
 fn time_joins(plan: Plan, pairs: &[Pair]) -> Vec<Line> {
     heading("join, and below it its two checks alone");
     let time = |pair: &Pair| {
-        let line = Line { name: pair.name.clone(), family: "join", n: pair.n, m: 0, times: time_join(plan, pair) };
+        let times = time_join(plan, &pair.a, &pair.b);
+        let alone = sum(pair.alone.iter().map(|(a, b)| time_join(plan, a, b)));
+        let line = Line { name: pair.name.clone(), family: pair.family, n: pair.n, m: 0, times, alone };
         show(&line, &pair.answer.to_string());
-        let (a, b) = (time_check(plan, &pair.a), time_check(plan, &pair.b));
-        let sum = |k: usize| Time { best: a[k].best + b[k].best, median: a[k].median + b[k].median };
-        show(&Line { name: "  its checks".into(), family: "", n: 0, m: 0, times: [sum(0), sum(1), sum(2)] }, "");
+        let checks = sum([&pair.a, &pair.b].into_iter().map(|record| time_check(plan, record))).unwrap();
+        show_times("  its checks", checks);
         line
     };
     pairs.iter().map(time).collect()
@@ -253,8 +262,20 @@ fn heading(title: &str) {
 }
 
 fn show(line: &Line, answer: &str) {
-    let [x, y, z] = line.times.map(|time| format!("{} ({})", number(time.best), number(time.median)));
+    let [x, y, z] = line.times.map(cell);
     println!("{:<40} {answer:>6} {x:>19} {y:>19} {:>6.2} {z:>19} {:>6.2}", line.name, line.ratio(1), line.ratio(2));
+    if let Some(times) = line.alone {
+        show_times("  each alone", times);
+    }
+}
+
+fn show_times(name: &str, times: [Time; 3]) {
+    let [x, y, z] = times.map(cell);
+    println!("{name:<40} {:>6} {x:>19} {y:>19} {:>6} {z:>19}", "", "");
+}
+
+fn cell(time: Time) -> String {
+    format!("{} ({})", number(time.best), number(time.median))
 }
 
 fn number(ns: f64) -> String {
@@ -278,7 +299,9 @@ fn growth<'a>(lines: impl Iterator<Item = &'a Line> + Clone, ns: &[usize], ms: &
     let by_n: Vec<_> = ns.iter().map(|&n| (n, m)).collect();
     let by_m: Vec<_> = ms.iter().map(|&m| (n, m)).collect();
     println!();
-    println!("Growth of the best time, as the factor from each size to the next: n through {ns:?} at m = {m} | m through {ms:?} at n = {n}");
+    println!(
+        "Growth of the best time, as the factor from each size to the next: n through {ns:?} at m = {m} | m through {ms:?} at n = {n}"
+    );
     println!("{:<20}{}", "", VERSIONS.each_ref().map(|version| format!("{:<36}", version.name)).concat());
     for family in families {
         let columns = [0, 1, 2].map(|k| format!("{:<36}", format!("{} |{}", factors(family, k, &by_n), factors(family, k, &by_m))));
@@ -287,7 +310,7 @@ fn growth<'a>(lines: impl Iterator<Item = &'a Line> + Clone, ns: &[usize], ms: &
 }
 
 /// The records on which the program is timed.
-const CHOSEN: [&str; 10] = [
+const CHOSEN: [&str; 12] = [
     "tiny n=1 m=0",
     "tiny n=2 m=2",
     "full output own n=64 m=32",
@@ -298,6 +321,8 @@ const CHOSEN: [&str; 10] = [
     "late rule 3 n=64 m=32",
     "late rule 4 n=64 m=32",
     "late rule 5 n=64 m=32",
+    "four full output n=64 m=32",
+    "four late rule 5 n=64 m=32",
 ];
 
 /// Times the program beside one that does nothing.
@@ -345,18 +370,36 @@ fn run(program: &Path, record: &[u8]) -> (Duration, String) {
     (start.elapsed(), String::from_utf8_lossy(&output.stdout).into_owned())
 }
 
+/// What several observers cost beside each of them alone: one call with all of them by a call for each.
+fn by_observer(calls: &[(&str, Vec<Line>)]) {
+    println!();
+    println!("Several observers, the time of one call by the times of a call for each observer alone: least, geometric mean, largest");
+    println!("{:<24}{}", "", VERSIONS.each_ref().map(|version| format!("{:<30}", version.name)).concat());
+    for (call, lines) in calls {
+        let ratios = [0, 1, 2].map(|version| lines.iter().filter_map(|line| line.ratio_to_alone(version)).collect::<Vec<f64>>());
+        if !ratios[0].is_empty() {
+            println!("{call:<24}{}", ratios.map(|ratios| format!("{:<30}", spread(&ratios))).concat());
+        }
+    }
+}
+
+/// The least, the geometric mean and the largest.
+fn spread(ratios: &[f64]) -> String {
+    let (least, most) = ratios.iter().fold((f64::MAX, 0.0_f64), |(least, most), &ratio| (least.min(ratio), most.max(ratio)));
+    format!("{least:>9.2}{:>9.2}{most:>9.2}", geometric_mean(ratios))
+}
+
 fn by_family(calls: &[(&str, Vec<Line>)]) {
     println!();
     println!("Ratios by family: least, geometric mean, largest");
-    println!("{:<20}{:<30}{:<30}", "", VERSIONS[1].name, VERSIONS[2].name);
+    println!("{:<24}{:<30}{:<30}", "", VERSIONS[1].name, VERSIONS[2].name);
     let all: Vec<&Line> = calls.iter().flat_map(|(_, lines)| lines).collect();
     for group in all.chunk_by(|x, y| x.family == y.family) {
         let columns = [1, 2].map(|version| {
-            let ratios = group.iter().map(|line| line.ratio(version));
-            let (least, most) = (ratios.clone().fold(f64::MAX, f64::min), ratios.fold(0.0, f64::max));
-            format!("{:<30}", format!("{least:>9.2}{:>9.2}{most:>9.2}", mean(group, version)))
+            let ratios: Vec<f64> = group.iter().map(|line| line.ratio(version)).collect();
+            format!("{:<30}", spread(&ratios))
         });
-        println!("{:<20}{}", group[0].family, columns.concat());
+        println!("{:<24}{}", group[0].family, columns.concat());
     }
 }
 
@@ -387,6 +430,14 @@ fn sum_up(calls: &[(&str, Vec<Line>)]) {
             }
         }
     }
+    for (call, lines) in calls {
+        let ratio = |line: &Line| line.ratio_to_alone(0).unwrap_or(0.0);
+        let lists: Vec<&Line> = lines.iter().filter(|line| line.alone.is_some()).collect();
+        if let Some(worst) = largest(lists.iter().copied(), ratio) {
+            let above = lists.iter().filter(|line| ratio(line) > 1.0).count();
+            println!("  {call}, several observers against each alone: largest ratio {worst}; above 1 at {above} of {} inputs", lists.len());
+        }
+    }
 }
 
 /// The largest ratio and where it is.
@@ -397,5 +448,10 @@ fn largest<'a>(lines: impl Iterator<Item = &'a Line>, ratio: impl Fn(&Line) -> f
 
 /// The geometric mean of the ratios.
 fn mean(lines: &[&Line], version: usize) -> f64 {
-    (lines.iter().map(|line| line.ratio(version).ln()).sum::<f64>() / lines.len() as f64).exp()
+    let ratios: Vec<f64> = lines.iter().map(|line| line.ratio(version)).collect();
+    geometric_mean(&ratios)
+}
+
+fn geometric_mean(ratios: &[f64]) -> f64 {
+    (ratios.iter().map(|ratio| ratio.ln()).sum::<f64>() / ratios.len() as f64).exp()
 }

@@ -1,4 +1,4 @@
-//! Records with several observers, whether the library reads them or not.
+//! Records with several observers: all versions against answers worked out by hand, and against the library's answers for each observer alone.
 
 use crate::agree::{couple, largest, Score};
 use crate::closure::PIECE;
@@ -28,7 +28,7 @@ fn explained(version: &Version, record: &[u8]) -> (u32, Vec<u64>) {
 }
 
 fn refused(record: &[u8], number: u32) {
-    for version in &VERSIONS[1..] {
+    for version in &VERSIONS {
         assert_eq!(explained(version, record).0, number, "{}", version.name);
         for (answer, out) in
             [output(40_000, |out| (version.closure)(record, out)), output(40_000, |out| (version.join)(record, record, out))]
@@ -40,15 +40,9 @@ fn refused(record: &[u8], number: u32) {
 }
 
 fn told(table: &Table, answer: u32, numbers: [u64; 8]) {
-    for version in &VERSIONS[1..] {
+    for version in &VERSIONS {
         assert_eq!(explained(version, &table.record()), (answer, numbers.to_vec()), "{}", version.name);
     }
-}
-
-/// The part for each observer alone: records that the library reads.
-fn alone(table: &Table) -> Vec<Vec<u8>> {
-    let one = |(observer, classes): (u8, &[u8])| Table { observer, classes: classes.to_vec(), further: vec![], ..table.clone() }.record();
-    table.views().into_iter().map(one).collect()
 }
 
 fn with(classes: &[&[u8]], observers: &[u8], events: &[(u8, u8, &[u64])]) -> Table {
@@ -62,8 +56,8 @@ fn with(classes: &[&[u8]], observers: &[u8], events: &[(u8, u8, &[u64])]) -> Tab
 }
 
 #[test]
-fn plain_and_sharp_agree() {
-    let mut score = Score::of(&VERSIONS[1..]);
+fn all_agree() {
+    let mut score = Score::of(&VERSIONS);
     score.random(3, 600, true);
     assert_eq!(score.differences, 0);
     for answer in [0, 1, 2, 3, 4, 5, 6, 7, 8, 16, 20, 101, 102, 103, 104, 105] {
@@ -91,7 +85,7 @@ fn as_the_library_for_each_alone() {
     for round in 0..1_000 {
         let (a, b) = if round % 100 == 0 { (largest(dice), largest(dice)) } else { couple(dice, true) };
         let (x, y) = (a.record(), b.record());
-        let views = alone(&a);
+        let views = a.alone();
         let each: Vec<_> = views.iter().map(|record| explained(library, record)).collect();
         let first = each.iter().position(|told| told.0 != 0);
         let due = &each[first.unwrap_or(0)];
@@ -99,7 +93,7 @@ fn as_the_library_for_each_alone() {
         passes += first.is_none() as usize;
         let blocks: Vec<u8> =
             views.iter().flat_map(|record| output(40_000, |out| (library.closure)(record, out)).1[..PIECE * a.n()].to_vec()).collect();
-        for version in &VERSIONS[1..] {
+        for version in &VERSIONS {
             assert_eq!(&explained(version, &x), due, "{} round {round}", version.name);
             let (answer, out) = output(blocks.len(), |out| (version.closure)(&x, out));
             assert_eq!(answer, 0);
@@ -107,7 +101,7 @@ fn as_the_library_for_each_alone() {
             assert_eq!(output(blocks.len() - 1, |out| (version.closure)(&x, out)), (15, vec![7; 40_000]));
         }
 
-        let others = alone(&b);
+        let others = b.alone();
         let lists = [&a, &b].map(|table| table.views().iter().map(|view| view.0).collect::<Vec<u8>>());
         let broken = |views: &[Vec<u8>]| views.iter().map(|record| (library.check)(record)).find(|&number| number != 0);
         let due = match (broken(&views), broken(&others)) {
@@ -130,7 +124,7 @@ fn as_the_library_for_each_alone() {
             }
         };
         joined += due.is_ok() as usize;
-        for version in &VERSIONS[1..] {
+        for version in &VERSIONS {
             let (answer, out) = output(40_000, |out| (version.join)(&x, &y, out));
             match &due {
                 Err(number) => assert_eq!((answer, out), (*number, vec![7; 40_000]), "{} round {round}", version.name),
@@ -158,7 +152,7 @@ fn largest_record() {
     let mut one = Table::new(vec![0]);
     one.further = table.further.iter().map(|&(observer, _)| (observer, vec![0])).collect();
     let part = with(&[&[0; 64][..]; 4], &[0, 0x40, 0x80, 0xc1], &[(OUTPUT, LOW, &[u64::MAX; 64][..]); 32]);
-    for version in &VERSIONS[1..] {
+    for version in &VERSIONS {
         let (answer, out) = output(16_782, |out| (version.join)(&part.record(), &one.record(), out));
         assert_eq!((answer, &out[..16_782]), (0, &part.record()[..]));
     }
@@ -254,7 +248,7 @@ fn refusals_in_their_order() {
 fn joins_by_lists() {
     let part = |observers: &[u8]| with(&vec![&[0][..]; observers.len()], observers, &[]).record();
     let lists: [&[u8]; 6] = [&[0x00], &[TOP], &[0x00, TOP], &[0x00, 0x82], &[0x40, TOP], &[0x00, TOP, 0xff]];
-    for version in &VERSIONS[1..] {
+    for version in &VERSIONS {
         for a in lists {
             for b in lists {
                 let (answer, out) = output(40_000, |out| (version.join)(&part(a), &part(b), out));
@@ -276,7 +270,7 @@ fn joins_by_lists() {
 fn closures_by_observer() {
     // Event 1 is silent for the first observer alone.
     let record = with(&[&[0, 0], &[0, 0]], &[LOW, TOP], &[(OUTPUT, HIGH, &[2, 0])]).record();
-    for version in &VERSIONS[1..] {
+    for version in &VERSIONS {
         let (answer, out) = output(4 * PIECE, |out| (version.closure)(&record, out));
         assert_eq!(answer, 0);
         let pieces: Vec<(u8, &[u8], &[u8])> = out.chunks(PIECE).take(4).map(|piece| (piece[0], &piece[8..10], &piece[72..74])).collect();

@@ -364,14 +364,10 @@ event 12 internal rank 3 compartments 1 5
         text.replace("part\n", &format!("part\n{first}"))
     }
 
-    fn table_of_several(text: &str) -> Table {
-        reader::read_kinds(text.as_bytes(), crate::kinds::SEVERAL).unwrap()
-    }
-
     /// The differences of the part with three observers and of it with one piece of its text replaced.
     fn changed_watched(old: &str, new: &str) -> Vec<String> {
         assert!(watched().contains(old), "{old}");
-        differences(&table_of_several(&watched()), &table_of_several(&watched().replacen(old, new, 1)))
+        differences(&table(&watched()), &table(&watched().replacen(old, new, 1)))
     }
 
     #[test]
@@ -380,7 +376,7 @@ event 12 internal rank 3 compartments 1 5
             "observer rank 1 compartments none (0x40): only in B: 1 class",
             "observer rank 2 compartments none (0x80): only in B: 3 classes",
         ];
-        assert_eq!(differences(&table(A), &table_of_several(&watched())), expected);
+        assert_eq!(differences(&table(A), &table(&watched())), expected);
         let expected = [
             "observer rank 1 compartments 0 3 (0x49): only in A: 2 classes",
             "observer rank 1 compartments 3 (0x48): only in B: 2 classes",
@@ -401,7 +397,7 @@ event 12 internal rank 3 compartments 1 5
         ];
         assert_eq!(changed_watched("{idle sent} {full}", "{idle} {sent full}"), expected);
         let one = table(&A.replace("{idle sent} {full}", "{idle} {sent full}"));
-        let lines = differences(&table_of_several(&watched()), &one);
+        let lines = differences(&table(&watched()), &one);
         assert_eq!(lines[0], "observer rank 1 compartments none (0x40): only in A: 1 class");
         assert_eq!(lines[1], "observer rank 2 compartments none (0x80): only in A: 3 classes");
         assert_eq!(lines[2..], expected);

@@ -1,7 +1,6 @@
 //! Reads a table's text. The grammar is in the README; there is one function for each of its rules.
 //! Reading stops at the first fault, which names its line and column and what was expected there.
 
-use crate::kinds::{allow_several, KINDS};
 use crate::level::{Level, MAX_COMPARTMENT, MAX_RANK};
 use crate::part::{
     by_first_appearance, Event, Kind, Names, Observer, Part, Table, MAX_EVENTS, MAX_OBSERVERS, MAX_STATES,
@@ -41,11 +40,9 @@ impl States {
     }
 }
 
-/// `most_observers` is how many observers a table may have.
 struct Reader {
     tokens: Vec<Token>,
     next: usize,
-    most_observers: usize,
 }
 
 fn fault<T>(place: Place, message: String) -> Result<T, Fault> {
@@ -77,8 +74,8 @@ fn number_up_to(word: &str, most: usize) -> Option<usize> {
 }
 
 impl Reader {
-    fn new(text: &str, kinds: &[u16]) -> Reader {
-        Reader { tokens: split(text), next: 0, most_observers: if allow_several(kinds) { MAX_OBSERVERS } else { 1 } }
+    fn new(text: &str) -> Reader {
+        Reader { tokens: split(text), next: 0 }
     }
 
     fn peek(&self) -> &Token {
@@ -182,10 +179,9 @@ impl Reader {
 
     /// The observers behind the first one's classes: { observer classes }
     fn further_observers(&mut self, states: &States, observers: &mut Vec<Observer>) -> Result<(), Fault> {
-        while self.most_observers > 1 && self.at_word("observer") {
-            if observers.len() == self.most_observers {
-                let most = self.most_observers;
-                let message = format!("expected at most {most} observers (refusal 20), found one more");
+        while self.at_word("observer") {
+            if observers.len() == MAX_OBSERVERS {
+                let message = format!("expected at most {MAX_OBSERVERS} observers (refusal 20), found one more");
                 return fault(self.peek().place, message);
             }
             let level = self.observer(observers.last())?;
@@ -424,7 +420,7 @@ impl Reader {
         let classes = self.classes(&states, "")?;
         let mut observers = vec![Observer { level, classes }];
         self.further_observers(&states, &mut observers)?;
-        let or = if observers.len() < self.most_observers { "'observer', " } else { "" };
+        let or = if observers.len() < MAX_OBSERVERS { "'observer', " } else { "" };
         let mut names = Names { states: states.names.clone(), ..Names::default() };
         let events = self.events(&states, &mut names, or)?;
         Ok(Table { part: Part { states: states.count, start, events, observers }, names })
@@ -445,20 +441,15 @@ fn numbered(place: Place, whose: &str, group_of: &[Option<usize>]) -> Result<Vec
 
 /// Reads a table.
 pub fn read(bytes: &[u8]) -> Result<Table, Fault> {
-    read_kinds(bytes, KINDS)
-}
-
-/// Reads a table that has a record of one of these kinds.
-pub fn read_kinds(bytes: &[u8], kinds: &[u16]) -> Result<Table, Fault> {
     if let Some(fault) = not_text(bytes) {
         return Err(fault);
     }
-    Reader::new(&String::from_utf8_lossy(bytes), kinds).table()
+    Reader::new(&String::from_utf8_lossy(bytes)).table()
 }
 
 /// Reads a level alone, as it stands behind `observer`.
 pub fn read_level(text: &str) -> Result<Level, Fault> {
-    let mut reader = Reader::new(text, KINDS);
+    let mut reader = Reader::new(text);
     let level = reader.level()?;
     reader.line_end()?;
     match reader.peek().what {
@@ -470,7 +461,6 @@ pub fn read_level(text: &str) -> Result<Level, Fault> {
 #[cfg(test)]
 mod tests {
     use super::*;
-    use crate::kinds::{ONE, SEVERAL};
     use crate::random::Rng;
     use crate::record;
 
@@ -507,12 +497,8 @@ event 7 \"send it\" input rank 2 compartments none
   idle -> sent full
 ";
 
-    fn parse_kinds(text: &str, kinds: &[u16]) -> Result<Table, String> {
-        read_kinds(text.as_bytes(), kinds).map_err(|fault| fault.to_string())
-    }
-
     fn parse(text: &str) -> Result<Table, String> {
-        parse_kinds(text, ONE)
+        read(text.as_bytes()).map_err(|fault| fault.to_string())
     }
 
     /// What is said about GOOD with one piece of its text replaced.
@@ -655,7 +641,7 @@ event 7 \"send it\" input rank 2 compartments none
 
     #[test]
     fn faults_of_events() {
-        assert_eq!(said("event 7", "7"), "7:1: expected 'event' or the end of the file, found '7'");
+        assert_eq!(said("event 7", "7"), "7:1: expected 'observer', 'event' or the end of the file, found '7'");
         assert_eq!(said("event 7", "event 65536"), "7:7: expected an identifier from 0 to 65535, found '65536'");
         assert_eq!(said("event 7", "event send"), "7:7: expected an identifier from 0 to 65535, found 'send'");
         let falling = "10:7: expected an identifier above 7, the one before it; found";
@@ -701,30 +687,18 @@ event 7 \"send it\" input rank 2 compartments none
     /// What is said about WATCHED with one piece of its text replaced.
     fn said_watched(old: &str, new: &str) -> String {
         assert!(WATCHED.contains(old), "{old}");
-        parse_kinds(&WATCHED.replacen(old, new, 1), SEVERAL).unwrap_err()
+        parse(&WATCHED.replacen(old, new, 1)).unwrap_err()
     }
 
     #[test]
     fn several_observers() {
-        let Table { part, names } = parse_kinds(WATCHED, SEVERAL).unwrap();
+        let Table { part, names } = parse(WATCHED).unwrap();
         let columns = [(0x00, [0, 0, 0]), (0x49, [0, 0, 1]), (0x80, [0, 1, 2])];
         let observers = columns.map(|(byte, classes)| Observer { level: Level(byte), classes: classes.to_vec() });
         assert_eq!(part.observers, observers);
         assert_eq!((part.states, part.start, part.events[0].rows.as_slice()), (3, 0, &[6, 0, 0][..]));
         assert_eq!(names.states, ["idle", "sent", "full"]);
         assert_eq!(names.event(7), Some("send it"));
-    }
-
-    /// A table with one observer is the same with kind 2 and without it.
-    #[test]
-    fn one_observer_in_any_case() {
-        assert_eq!(parse_kinds(GOOD, SEVERAL), parse(GOOD));
-    }
-
-    /// Without kind 2 a second observer is no line of a table.
-    #[test]
-    fn several_observers_that_are_not_described() {
-        assert_eq!(parse(WATCHED).unwrap_err(), "6:1: expected 'event' or the end of the file, found 'observer'");
     }
 
     #[test]
@@ -747,7 +721,7 @@ event 7 \"send it\" input rank 2 compartments none
     fn levels_that_are_not_comparable() {
         let text = WATCHED.replace("rank 0 compartments none", "rank 1 compartments 0");
         let text = text.replace("rank 1 compartments 0 3", "rank 1 compartments 1");
-        let levels: Vec<u8> = parse_kinds(&text, SEVERAL).unwrap().part.observers.iter().map(|o| o.level.0).collect();
+        let levels: Vec<u8> = parse(&text).unwrap().part.observers.iter().map(|o| o.level.0).collect();
         assert_eq!(levels, [0x41, 0x42, 0x80]);
     }
 
@@ -758,8 +732,8 @@ event 7 \"send it\" input rank 2 compartments none
             (0..count).map(|c| format!("observer rank 3 compartments {c}\nclasses {{2 1 0}}\n")).collect()
         };
         let text = |count| WATCHED.replace("event 7", &(more(count) + "event 7"));
-        assert_eq!(parse_kinds(&text(1), SEVERAL).unwrap().part.observers.len(), 4);
-        let fault = parse_kinds(&text(2), SEVERAL).unwrap_err();
+        assert_eq!(parse(&text(1)).unwrap().part.observers.len(), 4);
+        let fault = parse(&text(2)).unwrap_err();
         assert_eq!(fault, "15:1: expected at most 4 observers (refusal 20), found one more");
     }
 
@@ -768,7 +742,7 @@ event 7 \"send it\" input rank 2 compartments none
         let other = "'observer', 'event' or the end of the file, found";
         assert_eq!(said_watched("event 7", "7"), format!("13:1: expected {other} '7'"));
         let full = WATCHED.replace("event 7", "observer rank 3 compartments none\nclasses {0 1 2}\n7");
-        let fault = parse_kinds(&full, SEVERAL).unwrap_err();
+        let fault = parse(&full).unwrap_err();
         assert_eq!(fault, "15:1: expected 'event' or the end of the file, found '7'");
         let found = said_watched("classes {idle sent} {full}", "states 3");
         assert_eq!(found, "7:1: expected 'classes', found 'states'");
@@ -781,7 +755,7 @@ event 7 \"send it\" input rank 2 compartments none
         let end = said_watched("rank 2 compartments none", "rank 2 compartments none 3");
         assert_eq!(end, "8:35: expected the end of the line, found '3'");
         let behind = WATCHED.to_string() + "observer rank 3 compartments none\n";
-        let fault = parse_kinds(&behind, SEVERAL).unwrap_err();
+        let fault = parse(&behind).unwrap_err();
         assert_eq!(fault, "15:1: expected a state from 0 to 2 or a state's name or 'event', found 'observer'");
     }
 
@@ -830,7 +804,7 @@ event 7 \"send it\" input rank 2 compartments none
         assert_eq!(said("send it", "send\u{7}it"), format!("7:14: {control} U+0007"));
         assert_eq!(said("# names", "# \u{202E}names"), format!("4:35: {control} U+202E"));
         assert_eq!(said("start idle", "start\ridle"), format!("5:6: {control} U+000D"));
-        let bytes = read_kinds(b"part\nobserver \xFF", ONE).unwrap_err().to_string();
+        let bytes = read(b"part\nobserver \xFF").unwrap_err().to_string();
         assert_eq!(bytes, "2:10: expected text in UTF-8, found the byte 0xFF");
     }
 
@@ -847,7 +821,7 @@ event 7 \"send it\" input rank 2 compartments none
         for whole in [GOOD, WATCHED] {
             for end in 0..whole.len() {
                 let text = &whole[..end];
-                if let Err(fault) = read_kinds(text.as_bytes(), SEVERAL) {
+                if let Err(fault) = read(text.as_bytes()) {
                     assert!(fault.place.line <= text.matches('\n').count() + 1);
                 }
             }
@@ -870,11 +844,11 @@ event 7 \"send it\" input rank 2 compartments none
                     _ => bytes[at] = rng.next() as u8,
                 }
             }
-            match read_kinds(&bytes, SEVERAL) {
+            match read(&bytes) {
                 Ok(table) => {
                     let text = crate::writer::write(&table.part);
-                    assert_eq!(parse_kinds(&text, SEVERAL).unwrap().part, table.part);
-                    assert_eq!(record::read_kinds(&record::write(&table.part), SEVERAL), Ok(table.part));
+                    assert_eq!(parse(&text).unwrap().part, table.part);
+                    assert_eq!(record::read(&record::write(&table.part)), Ok(table.part));
                     parts += 1;
                 }
                 Err(fault) => {

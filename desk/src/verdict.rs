@@ -104,8 +104,17 @@ fn fits_step(observer: &Observer, event: &Event, named: &Break) -> Result<(), St
     Ok(())
 }
 
-/// Could the line name a break for this observer? Only what it names is looked up. Gives the event.
-fn fits_break<'a>(part: &'a Part, observer: &Observer, named: &Break) -> Result<&'a Event, String> {
+/// Has u no answer to the step that the line of a rule from 3 to 5 names?
+fn unanswered(part: &Part, observer: &Observer, event: &Event, named: &Break) -> Result<(), String> {
+    let Break { rule, event: identifier, t, u, .. } = *named;
+    match answer(part, observer, rule, event, [t, u]) {
+        Some(state) => Err(format!("state {u} answers event {identifier} by state {state}, in the class of state {t}")),
+        None => Ok(()),
+    }
+}
+
+/// Is the named break one for this observer?
+fn is_break(part: &Part, observer: &Observer, named: &Break) -> Result<(), String> {
     let Some(event) = part.event(named.event) else { return Err(format!("there is no event {}", named.event)) };
     let last = part.states - 1;
     if let Some(state) = [named.s, named.t, named.u].into_iter().find(|&state| state > last) {
@@ -116,20 +125,9 @@ fn fits_break<'a>(part: &'a Part, observer: &Observer, named: &Break) -> Result<
         return Err(format!("rule {rule} is not about the {kind} {}", named.event));
     }
     match named.rule {
-        1 => fits_rule_1(event, named)?,
-        _ => fits_step(observer, event, named)?,
-    }
-    Ok(event)
-}
-
-/// Is the named break one for this observer? Beside what the line names, rules 3 to 5 ask for the answers of u.
-fn is_break(part: &Part, observer: &Observer, named: &Break) -> Result<(), String> {
-    let event = fits_break(part, observer, named)?;
-    let Break { rule, event: identifier, t, u, .. } = *named;
-    let answer = if rule > 2 { answer(part, observer, rule, event, [t, u]) } else { None };
-    match answer {
-        Some(state) => Err(format!("state {u} answers event {identifier} by state {state}, in the class of state {t}")),
-        None => Ok(()),
+        1 => fits_rule_1(event, named),
+        2 => fits_step(observer, event, named),
+        _ => fits_step(observer, event, named).and_then(|()| unanswered(part, observer, event, named)),
     }
 }
 
@@ -142,12 +140,9 @@ fn for_none(reasons: &[(Level, String)]) -> String {
     format!("it names a break for none of the observers; {}", words.join("; "))
 }
 
-/// The observer whose break the line names. The line has no level in it: of several observers it is the first for
-/// which that very break is one. `verdict` tells the first break of the first observer that has any.
+/// The observer whose break the line names. The line has no level in it: it is the first observer for which that very
+/// break is one. `verdict` tells the first break of the first observer that has any.
 fn concerned<'a>(part: &'a Part, named: &Break) -> Result<&'a Observer, String> {
-    if let [only] = part.observers.as_slice() {
-        return fits_break(part, only, named).map(|_| only);
-    }
     let mut reasons = Vec::new();
     for observer in &part.observers {
         match is_break(part, observer, named) {
@@ -158,8 +153,8 @@ fn concerned<'a>(part: &'a Part, named: &Break) -> Result<&'a Observer, String> 
     Err(for_none(&reasons))
 }
 
-/// Could the line be about this part? Whether it is right is not decided. Gives the observer whose break it names; a
-/// pass names none.
+/// Could the line be about this part? A break must be one, but whether it is the first, and whether a part passes, is not
+/// decided. Gives the observer whose break the line names; a pass names none.
 pub fn fits<'a>(part: &'a Part, verdict: &Verdict) -> Result<Option<&'a Observer>, String> {
     let fit = match verdict {
         Verdict::Pass => Ok(None),
@@ -219,7 +214,6 @@ pub fn words(table: &Table, observer: &Observer, verdict: &Verdict) -> String {
 #[cfg(test)]
 mod tests {
     use super::*;
-    use crate::kinds::SEVERAL;
     use crate::reader;
 
     /// Event 1 is a high input, 2 a low one, 3 a high output, 4 a low one; 5 and 6 are internal, 5 at a low level.
@@ -357,6 +351,7 @@ event 6 \"turn\" internal rank 2 compartments none
             format!("Rule 5 is broken: the low output 4 {from} {five}")
         );
     }
+
     /// Event 3 is silent for the first observer and seen by the others: only there it helps b to answer 4 and 5.
     const WATCHED: &str = "part
 observer rank 0 compartments none
@@ -380,13 +375,9 @@ event 5 internal rank 3 compartments none
   a -> c
 ";
 
-    fn watched(text: &str) -> Table {
-        reader::read_kinds(text.as_bytes(), SEVERAL).unwrap()
-    }
-
     /// The byte of the observer whose break a line names, or why there is none.
     fn told(text: &str, line: &str) -> Result<u8, String> {
-        let table = watched(text);
+        let table = reader::read(text.as_bytes()).unwrap();
         let fit = fits(&table.part, &read(line).unwrap());
         let fit = fit.map(|observer| observer.unwrap().level.0);
         fit.map_err(|why| why.strip_prefix("the verdict line is not about this part: ").unwrap().to_string())
@@ -436,18 +427,20 @@ event 5 internal rank 3 compartments none
         assert_eq!(told(&answered, "rule 5 event 4 from 0 to 2 other 1").unwrap_err(), answer);
     }
 
-    /// With one observer it is not asked whether u has an answer.
+    /// Of one observer the reason is told alone.
     #[test]
-    fn only_one_observer() {
+    fn no_break_for_the_only_observer() {
         let one = WATCHED.replace("observer rank 1 compartments none\nclasses {a b} {c}\n", "");
         let one = one.replace("observer rank 2 compartments none\nclasses {a} {b} {c}\n", "");
-        assert_eq!(told(&one, "rule 5 event 4 from 0 to 2 other 1"), Ok(0x00));
-        assert_eq!(told(&one, "rule 4 event 5 from 0 to 2 other 1"), Ok(0x00));
+        let answer = |event| Err(format!("state 1 answers event {event} by state 2, in the class of state 2"));
+        assert_eq!(told(&one, "rule 5 event 4 from 0 to 2 other 1"), answer(4));
+        assert_eq!(told(&one, "rule 4 event 5 from 0 to 2 other 1"), answer(5));
+        assert_eq!(told(&one, "rule 3 event 2 from 0 to 2 other 1"), Ok(0x00));
     }
 
     #[test]
     fn the_observer_in_words() {
-        let table = watched(WATCHED);
+        let table = reader::read(WATCHED.as_bytes()).unwrap();
         let given = read("rule 5 event 4 from 0 to 2 other 1").unwrap();
         let observer = fits(&table.part, &given).unwrap().unwrap();
         let five =

@@ -56,7 +56,6 @@ mod tests {
     use std::path::PathBuf;
 
     use super::*;
-    use crate::kinds::SEVERAL;
     use crate::random::{self, Rng};
     use crate::{reader, record};
 
@@ -108,11 +107,11 @@ event 2 output rank 0 compartments none
     ];
 
     fn read(text: &str) -> Part {
-        reader::read_kinds(text.as_bytes(), SEVERAL).unwrap().part
+        reader::read(text.as_bytes()).unwrap().part
     }
 
     fn read_record(bytes: &[u8]) -> Part {
-        record::read_kinds(bytes, SEVERAL).unwrap()
+        record::read(bytes).unwrap()
     }
 
     /// Text and back, and from there to the same bytes.
@@ -204,7 +203,7 @@ event 2 output rank 0 compartments none
     #[test]
     fn the_shipped_tables_come_back() {
         let tables = files("examples", "table");
-        assert!(tables.len() >= 7);
+        assert!(tables.len() >= 8);
         for path in tables {
             round_trip(&read(&fs::read_to_string(path).unwrap()));
         }

@@ -101,7 +101,6 @@ mod tests {
     use super::*;
     use crate::examples;
     use crate::make;
-    use crate::record::described::describe_lists;
     use crate::rng::Rng;
     use crate::shelf;
 
@@ -125,7 +124,6 @@ mod tests {
     /// The same with parts of several observers.
     #[test]
     fn shelf_and_bench_agree_on_lists() {
-        let _before = describe_lists();
         agree_on(32, make::calls_on_lists);
     }
 

@@ -3,10 +3,10 @@
 use crate::category::{self, Tally};
 use crate::category_internal;
 use crate::category_label::{self, BAD_LEVELS, GOOD_LEVELS};
-use crate::category_list;
+use crate::category_list::{self, LARGEST, LARGEST_BROKEN, WRONG_COUNTS};
 use crate::check;
 use crate::make::{self, Wanted};
-use crate::record::{self, order, FIRST_AT, MOST_LISTED, STATE_COUNT_AT};
+use crate::record::{self, FIRST_AT, FORMS, KIND_AT, MOST_LISTED, ORDER, STATE_COUNT_AT};
 use crate::rng::Rng;
 
 /// How many inputs a collection may try before it gives up; a run then fails for want of a category.
@@ -40,15 +40,15 @@ fn tally_of(names: &[String], minimum: usize) -> Tally {
 pub fn refused(rng: &mut Rng, minimum: usize) -> Vec<Vec<u8>> {
     let mut tally = tally_of(&category::refused_names(), minimum);
     let mut kept = Vec::new();
-    let order = order();
     for round in 0..MOST_TRIES {
         if tally.too_few().is_empty() {
             break;
         }
         let n = if rng.chance(1, 10) { rng.range(9, 64) } else { rng.range(1, 8) };
         let m = if rng.chance(1, 10) { rng.range(7, 32) } else { rng.range(0, 6) };
-        let refusal = order[round % order.len()];
-        let mut bytes = record::write(&passing_for(rng, n, m, refusal == 20));
+        let refusal = ORDER[round % ORDER.len()];
+        let several = refusal == 20 || rng.chance(1, 4);
+        let mut bytes = record::write(&passing_for(rng, n, m, several));
         make::damage(rng, &mut bytes, refusal);
         let names = category::of_record(&bytes);
         keep_if_wanted(&mut tally, &mut kept, bytes, &names);
@@ -139,21 +139,18 @@ pub type Reasons = (u32, Option<u32>);
 /// Every two reasons.
 pub fn each_two_reasons() -> Vec<Reasons> {
     let mut reasons = Vec::new();
-    let order = order();
-    for earlier in 0..order.len() {
-        for later in earlier + 1..order.len() {
-            reasons.push((order[earlier], Some(order[later])));
+    for earlier in 0..ORDER.len() {
+        for later in earlier + 1..ORDER.len() {
+            reasons.push((ORDER[earlier], Some(ORDER[later])));
         }
-        reasons.push((order[earlier], None));
+        reasons.push((ORDER[earlier], None));
     }
     reasons
 }
 
 /// The refusals behind which another one can come.
 pub fn earlier_refusals() -> Vec<u32> {
-    let mut order = order();
-    order.pop();
-    order
+    ORDER[..ORDER.len() - 1].to_vec()
 }
 
 /// Two damages at once, with the reasons that are meant. Refusal 20 needs several observers.
@@ -320,34 +317,120 @@ fn one_with_internal_events(rng: &mut Rng, round: usize) -> record::Part {
     make::with_quiet_events_internal(rng, &part)
 }
 
-/// Records for the categories of lists of observers; none before kind 2 is described.
+/// Records for the categories of kinds and of lists of observers: first some by a plan, then any.
 pub fn lists(rng: &mut Rng, minimum: usize) -> Vec<Vec<u8>> {
     let mut tally = Tally::new();
     for name in category_list::names() {
         tally.need(&name, category_list::least_of(&name, minimum));
     }
     let mut kept = Vec::new();
+    let mut keep = |tally: &mut Tally, bytes: Vec<u8>| {
+        let names = category_list::of_record(&bytes, check::check(&bytes));
+        keep_if_wanted(tally, &mut kept, bytes, &names);
+    };
+    for _ in 0..minimum {
+        keep(&mut tally, too_long_a_list(rng));
+        for bytes in other_kinds(rng) {
+            keep(&mut tally, bytes);
+        }
+        for count in category_list::counts() {
+            for bytes in damaged_lists(rng, count) {
+                keep(&mut tally, bytes);
+            }
+        }
+    }
     for round in 0..MOST_TRIES {
         if tally.too_few().is_empty() {
             break;
         }
-        let bytes = if round % 20 == 0 && tally.lacks(category_list::LARGEST) {
-            record::write(&make::staying_list(rng, 64, 32, MOST_LISTED))
+        if round % 20 == 0 && (tally.lacks(LARGEST) || tally.lacks(LARGEST_BROKEN)) {
+            let part = largest_list(rng, tally.lacks(LARGEST));
+            keep(&mut tally, record::write(&part));
         } else {
-            one_list(rng, round)
-        };
-        let names = category_list::of_record(&bytes, check::check(&bytes));
-        keep_if_wanted(&mut tally, &mut kept, bytes, &names);
+            keep(&mut tally, one_list(rng, round));
+        }
     }
     kept
 }
 
+/// A passing record of each kind with each other kind, described or not.
+fn other_kinds(rng: &mut Rng) -> Vec<Vec<u8>> {
+    let mut made = Vec::new();
+    for several in [false, true] {
+        let (n, m) = (rng.range(1, 4), rng.range(0, 3));
+        let bytes = record::write(&passing_for(rng, n, m, several));
+        let above = loop {
+            let kind = rng.range(256, 65_535) as u16;
+            if kind != 257 && kind != 258 {
+                break kind;
+            }
+        };
+        let undescribed = [0, 3, rng.range(4, 255) as u16, 257, 258, above];
+        for kind in undescribed.into_iter().chain(FORMS.iter().map(|form| form.kind)) {
+            let mut changed = bytes.clone();
+            changed[KIND_AT..KIND_AT + 2].copy_from_slice(&kind.to_le_bytes());
+            made.push(changed);
+        }
+    }
+    made
+}
+
+/// A passing record of kind 2, damaged at each place: its order, its count, its columns, its levels.
+fn damaged_lists(rng: &mut Rng, count: usize) -> Vec<Vec<u8>> {
+    let bytes = record::write(&make::list_of_size(rng, 3, 3, count));
+    let mut made = Vec::new();
+    let mut add = |rng: &mut Rng, damage: &dyn Fn(&mut Rng, &mut Vec<u8>)| {
+        let mut damaged = bytes.clone();
+        damage(rng, &mut damaged);
+        made.push(damaged);
+    };
+    for i in 1..count {
+        add(rng, &|_, bytes| make::misorder(bytes, i, true));
+        add(rng, &|_, bytes| make::misorder(bytes, i, false));
+    }
+    for i in 0..count {
+        add(rng, &|rng, bytes| make::misnumber(rng, bytes, i));
+    }
+    for places in category_list::mislabelled_places(count) {
+        add(rng, &|rng, bytes| make::mislabel_observers(rng, bytes, places[0]..places[0] + places.len()));
+    }
+    for wrong in WRONG_COUNTS {
+        add(rng, &|_, bytes| bytes[FIRST_AT] = wrong as u8);
+        add(rng, &|rng, bytes| make::with_count(rng, bytes, wrong));
+    }
+    let wrong = rng.range(6, 254);
+    add(rng, &|rng, bytes| make::with_count(rng, bytes, wrong));
+    add(rng, &|rng, bytes| {
+        let i = rng.range(1, count - 1);
+        make::misorder(bytes, i, rng.chance(1, 2));
+        make::damage(rng, bytes, 5);
+    });
+    made
+}
+
+/// 64 states and 255 observers: with an event or two the record is longer than the longest one.
+fn too_long_a_list(rng: &mut Rng) -> Vec<u8> {
+    let m = rng.range(1, 2);
+    let mut bytes = record::write(&make::staying_list(rng, 64, m, MOST_LISTED));
+    make::with_count(rng, &mut bytes, 255);
+    bytes
+}
+
+/// A part of the largest size that passes, or one that is meant to break a rule for its last observer.
+fn largest_list(rng: &mut Rng, passes: bool) -> record::Part {
+    let mut part = make::staying_list(rng, 64, 32, MOST_LISTED);
+    if !passes {
+        part.observers[MOST_LISTED - 1].classes = make::any_grouping(rng, 64);
+    }
+    part
+}
+
 /// A record of kind 2: passing, breaking, or damaged in one way or two.
 fn one_list(rng: &mut Rng, round: usize) -> Vec<u8> {
-    let turn = round / 16;
+    let turn = round / 12;
     let count = [4, 2, 3, 4][turn % 4];
     let small = |rng: &mut Rng| record::write(&make::list_of_size(rng, 3, 3, count));
-    match round % 16 {
+    match round % 12 {
         0 => record::write(&make::any_list(rng)),
         1 => {
             let (n, m) = if rng.chance(1, 2) { (1, rng.range(0, 4)) } else { (rng.range(1, 6), 0) };
@@ -366,35 +449,14 @@ fn one_list(rng: &mut Rng, round: usize) -> Vec<u8> {
         9 => with_raw_count(rng),
         10 => {
             let mut bytes = small(rng);
-            make::misnumber(rng, &mut bytes, turn / 4 % count);
-            bytes
-        }
-        11 => {
-            let mut bytes = small(rng);
-            for i in 0..count {
-                make::misnumber(rng, &mut bytes, i);
+            match turn % 7 {
+                0 => misnumber_each(rng, &mut bytes),
+                1 => make::mislabel_list(rng, &mut bytes),
+                other => make::damage(rng, &mut bytes, [4, 5, 7, 16, 8][other - 2]),
             }
-            if rng.chance(1, 2) {
+            if turn % 7 < 2 && rng.chance(1, 2) {
                 make::damage_list(rng, &mut bytes);
             }
-            bytes
-        }
-        12 => {
-            let mut bytes = small(rng);
-            make::mislabel_list(rng, &mut bytes);
-            if rng.chance(1, 6) {
-                make::damage_list(rng, &mut bytes);
-            }
-            bytes
-        }
-        13 => {
-            let mut bytes = small(rng);
-            make::damage(rng, &mut bytes, [4, 5, 7, 16, 8][turn % 5]);
-            bytes
-        }
-        14 => {
-            let mut bytes = small(rng);
-            make::damage_list(rng, &mut bytes);
             bytes
         }
         _ => {
@@ -402,6 +464,12 @@ fn one_list(rng: &mut Rng, round: usize) -> Vec<u8> {
             make::damage_list(rng, &mut bytes);
             bytes
         }
+    }
+}
+
+fn misnumber_each(rng: &mut Rng, bytes: &mut [u8]) {
+    for i in 0..record::Layout::of(bytes).columns() {
+        make::misnumber(rng, bytes, i);
     }
 }
 
@@ -451,7 +519,6 @@ pub fn misread(rng: &mut Rng, minimum: usize) -> Vec<Vec<u8>> {
 #[cfg(test)]
 mod tests {
     use super::*;
-    use crate::record::described::{describe, describe_lists};
 
     fn fills(records: &[Vec<u8>], names: &[String], minimum: usize) {
         let mut tally = tally_of(names, minimum);
@@ -482,7 +549,6 @@ mod tests {
 
     #[test]
     fn lists_fill_their_categories() {
-        let _before = describe_lists();
         let mut rng = Rng::new(69);
         let mut tally = Tally::new();
         for name in category_list::names() {
@@ -502,7 +568,6 @@ mod tests {
     /// Two damages to a list: the earlier refusal comes for each two reasons.
     #[test]
     fn lists_are_damaged_twice() {
-        let _before = describe_lists();
         let mut rng = Rng::new(70);
         let name = |(earlier, later): Reasons| format!("{} and {:?}", earlier, later);
         let mut tally = tally_of(&each_two_reasons().into_iter().map(name).collect::<Vec<_>>(), 5);
@@ -513,16 +578,6 @@ mod tests {
             }
         }
         assert!(tally.too_few().is_empty(), "{:?}", tally.too_few());
-    }
-
-    /// Before kind 2 is described, no list is made and no number is drawn.
-    #[test]
-    fn no_lists_before_they_are_described() {
-        let _before = describe(&[1]);
-        let mut rng = Rng::new(7);
-        assert!(lists(&mut rng, 200).is_empty());
-        assert_eq!(rng.next(), Rng::new(7).next());
-        assert!(!each_two_reasons().iter().any(|&(earlier, later)| earlier == 20 || later == Some(20)));
     }
 
     #[test]

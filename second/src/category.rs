@@ -2,7 +2,7 @@
 
 use crate::check::{self, Verdict};
 use crate::closure::least_steps;
-use crate::record::{self, incomparable, order, View};
+use crate::record::{self, incomparable, View, ORDER};
 use crate::wrong;
 use std::collections::{BTreeMap, BTreeSet};
 
@@ -292,7 +292,7 @@ pub fn wrong_readings_of(bytes: &[u8]) -> Vec<String> {
 }
 
 pub fn refused_names() -> Vec<String> {
-    order().iter().map(|number| format!("refused {}", number)).collect()
+    ORDER.iter().map(|number| format!("refused {}", number)).collect()
 }
 
 pub fn break_names() -> Vec<String> {

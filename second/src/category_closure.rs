@@ -2,8 +2,8 @@
 
 use crate::category_internal::{add_to_a_reach, has_step, low_internal_events, quiet_steps_without};
 use crate::check::{self, Verdict};
-use crate::closure::{self, ClosureAnswer, PIECE};
-use crate::record::{self, order, Part, View};
+use crate::closure::{self, ClosureAnswer, LONGEST, PIECE};
+use crate::record::{self, Part, View, ORDER};
 use crate::wrong_closure::{self, DISTANCES, LONGEST_WAY, ORDERS, STEPS};
 
 /// Is this a category that must come up most often?
@@ -15,9 +15,6 @@ const CLOSED: &str = "closed";
 const NO_WRONG_ORDER: &str = "closed, no wrong order gives the visits from some state";
 const SHORTER: &str = "closed, a low internal event adds to no set and makes a distance shorter";
 
-/// The longest closures, of 64 states.
-pub const LONGEST: usize = 64 * PIECE;
-
 /// The wrong orders and distances, and the steps without an event, are tried on parts of so many states at most; on
 /// larger ones they would take too long. The longest ways are tried on fewer.
 const MOST_STATES_MISREAD: usize = 24;
@@ -26,10 +23,10 @@ const MOST_STATES_LONGEST_WAY: usize = 5;
 /// Every category.
 pub fn names() -> Vec<String> {
     let mut names = Vec::new();
-    for number in order() {
+    for number in ORDER {
         names.push(format!("refused {}", number));
         names.push(format!("refused {}, no room either", number));
-        names.push(format!("refused {}, room for 64 states", number));
+        names.push(format!("refused {}, room for the longest closures", number));
     }
     for rule in 1..=5 {
         names.push(format!("closed, breaks rule {}", rule));
@@ -132,7 +129,7 @@ fn refused_names(number: u32, room: usize) -> Vec<String> {
         names.push(format!("refused {}, no room either", number));
     }
     if room >= LONGEST {
-        names.push(format!("refused {}, room for 64 states", number));
+        names.push(format!("refused {}, room for the longest closures", number));
     }
     names
 }

@@ -3,7 +3,7 @@
 use crate::category_internal::{add_to_a_reach, has_step, low_internal_events};
 use crate::check::{self, Break, Verdict};
 use crate::explain::{sum_of_sizes, ExplainAnswer, Explanation, EXPLANATION};
-use crate::record::{self, order, View};
+use crate::record::{self, View, ORDER};
 use crate::wrong_closure::{self, STEPS};
 use crate::wrong_count::{self, COUNTS};
 
@@ -21,7 +21,7 @@ const MOST_STATES_MISREAD: usize = 24;
 /// Every category.
 pub fn names() -> Vec<String> {
     let mut names = Vec::new();
-    for number in order() {
+    for number in ORDER {
         names.push(format!("refused {}", number));
         names.push(format!("refused {}, no room either", number));
         names.push(format!("refused {}, 64 bytes or more", number));

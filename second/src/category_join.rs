@@ -3,7 +3,7 @@
 use crate::category_internal::{add_to_a_reach, has_step, low_internal_events};
 use crate::check::{self, Verdict};
 use crate::join::{self, JoinAnswer, Side};
-use crate::record::{self, incomparable, order, Kind, Part, View};
+use crate::record::{self, incomparable, Kind, Part, View, ORDER};
 use crate::wrong_internal::as_outputs;
 
 /// Is this a category that must come up most often?
@@ -14,7 +14,7 @@ pub fn is_main(name: &str) -> bool {
 const JOINED: &str = "joined";
 const SHARED: &str = "joined, shared event";
 
-/// The longest record.
+/// The longest record of one observer.
 const LONGEST: usize = 16_586;
 
 fn kind_name(kind: Kind) -> &'static str {
@@ -29,7 +29,7 @@ fn kind_name(kind: Kind) -> &'static str {
 pub fn names() -> Vec<String> {
     let mut names = Vec::new();
     for side in ["A", "B"] {
-        for number in order() {
+        for number in ORDER {
             names.push(format!("{} refused {}", side, number));
         }
         for rule in 1..=5 {

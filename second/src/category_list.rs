@@ -1,22 +1,23 @@
-//! Categories of records by their lists of observers. Every call that takes a record has them once kind 2 is described.
+//! Categories of records by their kinds and their lists of observers. Every call that takes a record has them.
 
 use crate::check::{self, break_for, Break, Verdict};
 use crate::record::{
-    applies, column, fields, incomparable, is_described, is_mislabelled, is_misnumbered, observer_levels, read, u16_at,
-    u32_at, Layout, Part, FEWEST_LISTED, FIRST_AT, HEADER, KIND_AT, MOST_LISTED,
+    applies, column, fields, incomparable, is_mislabelled, is_misnumbered, longest, observer_levels, read, u16_at,
+    u32_at, Form, Layout, Part, FEWEST_LISTED, FIRST_AT, FORMS, HEADER, KIND_AT, MOST_LISTED,
 };
 use crate::wrong_list::{readings_that_differ, READINGS};
 
 /// The wrong readings are tried on parts of so many states at most; on larger ones they would take too long.
 const MOST_STATES_MISREAD: usize = 24;
 
-/// A category of large parts, of which fewer must come up: they take long.
+/// Categories of large parts, of which fewer must come up: they take long.
 pub const LARGEST: &str = "passes, 4 observers, 64 states and 32 events";
+pub const LARGEST_BROKEN: &str = "breaks at the last of 4 observers, 64 states and 32 events";
 
 /// The least number of cases of a category, where most of them have that least number.
 pub fn least_of(name: &str, least: usize) -> usize {
-    if name == LARGEST {
-        least.div_ceil(4)
+    if name == LARGEST || name == LARGEST_BROKEN {
+        least.div_ceil(10)
     } else {
         least
     }
@@ -27,36 +28,46 @@ pub fn counts() -> Vec<usize> {
     (FEWEST_LISTED..=MOST_LISTED).collect()
 }
 
-/// Every category; none before kind 2 is described.
+/// Counts out of range that come up by themselves.
+pub const WRONG_COUNTS: [usize; 4] = [0, 1, 5, 255];
+
+/// Kinds that are not described. Some have a low byte that is a kind described.
+pub const OTHER_KINDS: [(&str, fn(u16) -> bool); 6] = [
+    ("kind 0", |kind| kind == 0),
+    ("kind 3", |kind| kind == 3),
+    ("kind from 4 to 255", |kind| (4..256).contains(&kind)),
+    ("kind 257", |kind| kind == 257),
+    ("kind 258", |kind| kind == 258),
+    ("another kind above 255", |kind| kind > 255 && kind != 257 && kind != 258),
+];
+
+/// Every category.
 pub fn names() -> Vec<String> {
     let mut names = Vec::new();
-    if !is_described(2) {
-        return names;
+    for (kind, _) in OTHER_KINDS {
+        for form in FORMS {
+            names.push(format!("refused 3, {}, passes as kind {}", kind, form.kind));
+        }
     }
     for name in [
         "refused 4, kind 2",
         "refused 4, kind 2, count out of range too",
+        "refused 5, kind 1, the length is kind 2's",
         "refused 5, kind 2",
-        "refused 5, kind 2, count out of range too",
+        "refused 5, kind 2, the length is kind 1's",
         "refused 5, kind 2, the length is that of another count in range",
-        "refused 20, count 0",
-        "refused 20, count 1",
-        "refused 20, count 5",
-        "refused 20, count 255",
+        "refused 5, kind 2, count out of range too",
+        "refused 5, kind 2, observers that do not rise too",
+        "refused 20, count from 6 to 254",
         "refused 20, equal observers",
-        "refused 20, equal observers, the last two of four alone",
         "refused 20, falling observers",
-        "refused 20, falling observers, the last two of four alone",
+        "refused 20, longer than the longest record",
         "refused 20, otherwise passes",
         "refused 20, otherwise breaks",
         "refused 20, misnumbered too",
         "refused 20, mislabelled too",
         "refused 6, each column",
         "refused 7, kind 2",
-        "refused 16, kind 2, first observer alone",
-        "refused 16, kind 2, second observer alone",
-        "refused 16, kind 2, all but the first of four observers",
-        "refused 16, kind 2, all observers",
         "refused 16, kind 2, events alone",
         "refused 8, kind 2",
         "passes, several observers, columns differ",
@@ -68,20 +79,34 @@ pub fn names() -> Vec<String> {
         "passes, 4 observers and 1 state",
         "passes, 4 observers and 0 events",
         LARGEST,
+        LARGEST_BROKEN,
         "breaks rule 1, several observers",
         "breaks at the first observer alone",
         "breaks at the first observer and all others",
+        "breaks, one observer passes and two break different rules",
         "breaks, a later observer breaks a lower rule",
         "breaks, a later observer breaks a higher rule",
-        "breaks, a later observer breaks the same rule elsewhere",
+        "breaks, a later observer breaks the same rule at an earlier place",
+        "breaks, a later observer breaks the same rule at a later place",
     ] {
         names.push(name.to_string());
+    }
+    for count in WRONG_COUNTS {
+        names.push(format!("refused 5, kind 2, count {}", count));
+        names.push(format!("refused 20, count {}", count));
     }
     for count in counts() {
         names.push(format!("passes, {} observers", count));
         for i in 1..=count {
             names.push(format!("refused 6, column {} of {} alone", i, count));
             names.push(format!("breaks at observer {} of {}", i, count));
+        }
+        for i in 1..count {
+            names.push(order_name("equal", i, count));
+            names.push(order_name("falling", i, count));
+        }
+        for places in mislabelled_places(count) {
+            names.push(mislabelled_name(&places, count));
         }
     }
     for rule in 2..=5 {
@@ -95,19 +120,48 @@ pub fn names() -> Vec<String> {
     names
 }
 
+/// Observers number i - 1 and i do not rise, all others do.
+fn order_name(how: &str, i: usize, count: usize) -> String {
+    format!("refused 20, {} observers, {} and {} of {} alone", how, i, i + 1, count)
+}
+
+/// Which observers can have bad levels at a time. Only 0x00 is good and below a bad level, so they are the first ones, or
+/// those behind a first one.
+pub fn mislabelled_places(count: usize) -> Vec<Vec<usize>> {
+    let mut places = Vec::new();
+    for from in 0..2 {
+        for behind in from + 1..=count {
+            places.push((from..behind).collect());
+        }
+    }
+    places
+}
+
+fn mislabelled_name(places: &[usize], count: usize) -> String {
+    let numbers: Vec<String> = places.iter().map(|i| (i + 1).to_string()).collect();
+    format!("refused 16, kind 2, observers {} of {}", numbers.join(" "), count)
+}
+
 fn wrong_reading_name(name: &str) -> String {
     format!("wrong reading of lists differs: {}", name)
 }
 
-/// Is this a record of kind 2, and that kind described?
+fn kind_of(bytes: &[u8]) -> u16 {
+    u16_at(bytes, KIND_AT)
+}
+
+/// Is this a record of kind 2?
 pub fn lists_observers(bytes: &[u8]) -> bool {
-    is_described(2) && bytes.len() >= HEADER && u16_at(bytes, KIND_AT) == 2
+    bytes.len() >= HEADER && kind_of(bytes) == 2
 }
 
 /// The categories of a record's bytes, given Check's verdict.
 pub fn of_record(bytes: &[u8], verdict: Verdict) -> Vec<String> {
+    if verdict == Verdict::Refused(3) {
+        return kind_names(bytes);
+    }
     if !lists_observers(bytes) {
-        return Vec::new();
+        return one_observer_names(bytes, verdict);
     }
     let mut names = match verdict {
         Verdict::Refused(number) => refused_names(bytes, number),
@@ -132,6 +186,36 @@ impl Names {
     }
 }
 
+/// Refusal 3.
+fn kind_names(bytes: &[u8]) -> Vec<String> {
+    let mut names = Names(Vec::new());
+    for form in FORMS {
+        let mut of_form = bytes.to_vec();
+        of_form[KIND_AT..KIND_AT + 2].copy_from_slice(&form.kind.to_le_bytes());
+        let passes = check::check(&of_form) == Verdict::Pass;
+        for (kind, is_so) in OTHER_KINDS {
+            let name = format!("refused 3, {}, passes as kind {}", kind, form.kind);
+            names.add(passes && is_so(kind_of(bytes)), &name);
+        }
+    }
+    names.0
+}
+
+/// Has the record the length of this form, with so many observers?
+fn has_length_of(bytes: &[u8], form: Form, observers: usize) -> bool {
+    Layout { form, observers, ..Layout::of(bytes) }.body_length() == u32_at(bytes, 0) as usize
+}
+
+/// A record of kind 1 that might be taken for one of kind 2.
+fn one_observer_names(bytes: &[u8], verdict: Verdict) -> Vec<String> {
+    let mut names = Names(Vec::new());
+    if verdict == Verdict::Refused(5) {
+        let fits = has_length_of(bytes, FORMS[1], bytes[FIRST_AT] as usize);
+        names.add(fits, "refused 5, kind 1, the length is kind 2's");
+    }
+    names.0
+}
+
 fn is_out_of_range(count: usize) -> bool {
     !counts().contains(&count)
 }
@@ -147,13 +231,7 @@ fn refused_names(bytes: &[u8], number: u32) -> Vec<String> {
             names.add(true, "refused 4, kind 2");
             names.add(is_out_of_range(count), "refused 4, kind 2, count out of range too");
         }
-        5 => {
-            names.add(true, "refused 5, kind 2");
-            names.add(is_out_of_range(count), "refused 5, kind 2, count out of range too");
-            let fits = |observers| Layout { observers, ..Layout::of(bytes) }.body_length() == u32_at(bytes, 0) as usize;
-            names
-                .add(counts().into_iter().any(fits), "refused 5, kind 2, the length is that of another count in range");
-        }
+        5 => return size_names(bytes, count),
         20 => return list_names(bytes, count),
         6 => return column_names(bytes, count),
         16 => return level_names(bytes, count),
@@ -162,27 +240,55 @@ fn refused_names(bytes: &[u8], number: u32) -> Vec<String> {
     names.0
 }
 
+/// Refusal 5.
+fn size_names(bytes: &[u8], count: usize) -> Vec<String> {
+    let mut names = Names(vec!["refused 5, kind 2".to_string()]);
+    let is_other_count = counts().into_iter().any(|other| has_length_of(bytes, FORMS[1], other));
+    names.add(has_length_of(bytes, FORMS[0], 1), "refused 5, kind 2, the length is kind 1's");
+    names.add(is_other_count, "refused 5, kind 2, the length is that of another count in range");
+    names.add(is_out_of_range(count), "refused 5, kind 2, count out of range too");
+    names.add(WRONG_COUNTS.contains(&count), &format!("refused 5, kind 2, count {}", count));
+    let list = Layout::of(bytes).observer_at(0);
+    let levels = bytes.get(list..list + count);
+    let do_not_rise = levels.is_some_and(|levels| !levels.windows(2).all(|pair| pair[0] < pair[1]));
+    let name = "refused 5, kind 2, observers that do not rise too";
+    names.add(!is_out_of_range(count) && do_not_rise, name);
+    names.0
+}
+
 /// Refusal 20.
 fn list_names(bytes: &[u8], count: usize) -> Vec<String> {
     let mut names = Names(Vec::new());
-    let levels = observer_levels(bytes);
     if is_out_of_range(count) {
-        names.add([0, 1, 5, 255].contains(&count), &format!("refused 20, count {}", count));
+        names.add(WRONG_COUNTS.contains(&count), &format!("refused 20, count {}", count));
+        names.add((6..255).contains(&count), "refused 20, count from 6 to 254");
+        names.add(bytes.len() > longest(), "refused 20, longer than the longest record");
     } else {
-        for (name, is_so) in [("equal", u8::eq as fn(&u8, &u8) -> bool), ("falling", u8::gt)] {
-            let places: Vec<usize> = (1..count).filter(|&i| is_so(&levels[i - 1], &levels[i])).collect();
-            names.add(!places.is_empty(), &format!("refused 20, {} observers", name));
-            let are_last_alone = places == [3] && levels[..3].windows(2).all(|pair| pair[0] < pair[1]);
-            names.add(are_last_alone, &format!("refused 20, {} observers, the last two of four alone", name));
-        }
+        names.0.extend(order_names(&observer_levels(bytes)));
     }
     names.add(applies(6, bytes), "refused 20, misnumbered too");
     names.add(applies(16, bytes), "refused 20, mislabelled too");
     let is_otherwise_refused = [6, 7, 16, 8].into_iter().any(|number| applies(number, bytes));
-    if count > 0 && !is_otherwise_refused {
+    if count > 0 && Layout::of(bytes).n <= MOST_STATES_MISREAD && !is_otherwise_refused {
         let passes = check::passes(&fields(bytes));
         names.add(passes, "refused 20, otherwise passes");
         names.add(!passes, "refused 20, otherwise breaks");
+    }
+    names.0
+}
+
+/// Observers that do not rise.
+fn order_names(levels: &[u8]) -> Vec<String> {
+    let mut names = Names(Vec::new());
+    let places = |is_so: fn(&u8, &u8) -> bool| -> Vec<usize> {
+        (1..levels.len()).filter(|&i| is_so(&levels[i - 1], &levels[i])).collect()
+    };
+    let not_rising = places(u8::ge);
+    for (how, places) in [("equal", places(u8::eq)), ("falling", places(u8::gt))] {
+        names.add(!places.is_empty(), &format!("refused 20, {} observers", how));
+        if let ([i], 1) = (&places[..], not_rising.len()) {
+            names.add(true, &order_name(how, *i, levels.len()));
+        }
     }
     names.0
 }
@@ -198,17 +304,15 @@ fn column_names(bytes: &[u8], count: usize) -> Vec<String> {
     names.0
 }
 
-/// Refusal 16. A third observer with a bad level is never alone with it: only 0x00 is good and below it.
+/// Refusal 16.
 fn level_names(bytes: &[u8], count: usize) -> Vec<String> {
-    let mut names = Names(Vec::new());
     let levels = observer_levels(bytes);
     let places: Vec<usize> = (0..count).filter(|&i| is_mislabelled(levels[i])).collect();
-    names.add(places == [0], "refused 16, kind 2, first observer alone");
-    names.add(places == [1], "refused 16, kind 2, second observer alone");
-    names.add(places == [1, 2, 3], "refused 16, kind 2, all but the first of four observers");
-    names.add(places.len() == count, "refused 16, kind 2, all observers");
-    names.add(places.is_empty(), "refused 16, kind 2, events alone");
-    names.0
+    if places.is_empty() {
+        vec!["refused 16, kind 2, events alone".to_string()]
+    } else {
+        vec![mislabelled_name(&places, count)]
+    }
 }
 
 /// Is some event of this kind low for one observer and high for another?
@@ -217,6 +321,10 @@ fn is_seen_differently(part: &Part, is_of_kind: fn(&Part, usize) -> bool) -> boo
     (0..part.event_count()).any(|e| {
         is_of_kind(part, e) && views.iter().any(|view| view.is_low(e)) && views.iter().any(|view| view.is_high(e))
     })
+}
+
+fn is_largest(part: &Part) -> bool {
+    part.observers.len() == MOST_LISTED && part.state_count() == 64 && part.event_count() == 32
 }
 
 fn pass_names(part: &Part) -> Vec<String> {
@@ -237,7 +345,7 @@ fn pass_names(part: &Part) -> Vec<String> {
     names.add(is_seen_differently(part, Part::is_output), name);
     names.add(count == 4 && n == 1, "passes, 4 observers and 1 state");
     names.add(count == 4 && m == 0, "passes, 4 observers and 0 events");
-    names.add(count == 4 && n == 64 && m == 32, LARGEST);
+    names.add(is_largest(part), LARGEST);
     names.0
 }
 
@@ -251,13 +359,21 @@ fn break_names(part: &Part, found: Break) -> Vec<String> {
     names.add(found.rule > 1, &format!("breaks rule {} at observer {}", found.rule, at + 1));
     names.add(at == 0 && later.is_empty(), "breaks at the first observer alone");
     names.add(breaks.iter().all(Option::is_some), "breaks at the first observer and all others");
+    let other_rule = later.iter().any(|other| other.rule != found.rule);
+    let name = "breaks, one observer passes and two break different rules";
+    names.add(other_rule && breaks.contains(&None), name);
     names.add(later.iter().any(|other| other.rule < found.rule), "breaks, a later observer breaks a lower rule");
     names.add(later.iter().any(|other| other.rule > found.rule), "breaks, a later observer breaks a higher rule");
-    let is_elsewhere = |other: &Break| other.rule == found.rule && place(*other) != place(found);
-    names.add(later.iter().any(is_elsewhere), "breaks, a later observer breaks the same rule elsewhere");
+    let mut same_rule = later.iter().filter(|other| other.rule == found.rule).map(|other| place(*other));
+    let (is_earlier, is_later) =
+        (same_rule.clone().any(|other| other < place(found)), same_rule.any(|other| other > place(found)));
+    names.add(is_earlier, "breaks, a later observer breaks the same rule at an earlier place");
+    names.add(is_later, "breaks, a later observer breaks the same rule at a later place");
+    names.add(is_largest(part) && at == count - 1, LARGEST_BROKEN);
     names.0
 }
 
+/// Where a rule is broken, in the order of the verdict.
 fn place(found: Break) -> (u16, usize, usize, usize) {
     (found.identifier, found.s, found.t, found.u)
 }
@@ -267,7 +383,6 @@ mod tests {
     use super::*;
     use crate::examples;
     use crate::record;
-    use crate::record::described::{describe, describe_lists};
 
     /// The categories of a record but for the wrong readings.
     fn names_of(bytes: &[u8]) -> Vec<String> {
@@ -284,25 +399,32 @@ mod tests {
 
     #[test]
     fn refusals_by_hand() {
-        let _before = describe_lists();
         assert_eq!(of_p(&[(9, 33)]), ["refused 4, kind 2"]);
         assert_eq!(of_p(&[(9, 33), (6, 5)]), ["refused 4, kind 2", "refused 4, kind 2, count out of range too"]);
         assert_eq!(of_p(&[(9, 1)]), ["refused 5, kind 2"]);
         let other_count = "refused 5, kind 2, the length is that of another count in range";
-        assert_eq!(of_p(&[(6, 3)]), ["refused 5, kind 2", other_count]);
+        assert_eq!(of_p(&[(6, 3), (12, 0x41)]), ["refused 5, kind 2", other_count]);
         let out_of_range = "refused 5, kind 2, count out of range too";
-        assert_eq!(of_p(&[(6, 1)]), ["refused 5, kind 2", out_of_range, other_count]);
-        assert_eq!(of_p(&[(11, 0)]), ["refused 20, equal observers", "refused 20, otherwise breaks"]);
+        assert_eq!(of_p(&[(6, 1)]), ["refused 5, kind 2", other_count, out_of_range, "refused 5, kind 2, count 1"]);
+        assert_eq!(of_p(&[(6, 7)]), ["refused 5, kind 2", other_count, out_of_range]);
         assert_eq!(
-            of_p(&[(10, 0x40), (11, 0), (15, 0)]),
-            ["refused 20, falling observers", "refused 20, otherwise passes"]
+            of_p(&[(9, 1), (11, 0)]),
+            ["refused 5, kind 2", "refused 5, kind 2, observers that do not rise too"]
         );
-        assert_eq!(of_p(&[(11, 0), (15, 2)]), ["refused 20, equal observers", "refused 20, misnumbered too"]);
+        let equal = ["refused 20, equal observers", "refused 20, equal observers, 1 and 2 of 2 alone"];
+        let falling = ["refused 20, falling observers", "refused 20, falling observers, 1 and 2 of 2 alone"];
+        assert_eq!(of_p(&[(11, 0)]), [&equal[..], &["refused 20, otherwise breaks"]].concat());
+        assert_eq!(of_p(&[(10, 0x40), (11, 0), (15, 0)]), [&falling[..], &["refused 20, otherwise passes"]].concat());
+        assert_eq!(of_p(&[(11, 0), (15, 2)]), [&equal[..], &["refused 20, misnumbered too"]].concat());
+        assert_eq!(
+            names_of(&examples::z_for(&[0x40, 0x40, 0])),
+            ["refused 20, equal observers", "refused 20, falling observers", "refused 20, otherwise passes"]
+        );
         assert_eq!(
             names_of(&examples::z_for(&[0, 0x40, 0x80, 0x80])),
             [
                 "refused 20, equal observers",
-                "refused 20, equal observers, the last two of four alone",
+                "refused 20, equal observers, 3 and 4 of 4 alone",
                 "refused 20, otherwise passes"
             ]
         );
@@ -315,20 +437,53 @@ mod tests {
         assert_eq!(of_p(&[(15, 2)]), ["refused 6, column 2 of 2 alone"]);
         assert_eq!(of_p(&[(13, 2), (15, 2)]), ["refused 6, each column"]);
         assert_eq!(of_p(&[(22, 3)]), ["refused 7, kind 2"]);
-        assert_eq!(of_p(&[(10, 1)]), ["refused 16, kind 2, first observer alone"]);
-        assert_eq!(of_p(&[(11, 1)]), ["refused 16, kind 2, second observer alone"]);
-        assert_eq!(of_p(&[(10, 1), (11, 2)]), ["refused 16, kind 2, all observers"]);
+        assert_eq!(of_p(&[(10, 1)]), ["refused 16, kind 2, observers 1 of 2"]);
+        assert_eq!(of_p(&[(11, 1)]), ["refused 16, kind 2, observers 2 of 2"]);
+        assert_eq!(of_p(&[(10, 1), (11, 2)]), ["refused 16, kind 2, observers 1 2 of 2"]);
+        assert_eq!(names_of(&examples::z_for(&[0, 1, 2, 0x40])), ["refused 16, kind 2, observers 2 3 of 4"]);
         assert_eq!(of_p(&[(23, 1)]), ["refused 16, kind 2, events alone"]);
         assert_eq!(of_p(&[(55, 0x80)]), ["refused 8, kind 2"]);
         assert_eq!(of_p(&[(0, 0)]), [""; 0]);
-        assert_eq!(of_p(&[(4, 1)]), [""; 0]);
+        assert_eq!(of_p(&[(4, 1)]), ["refused 5, kind 1, the length is kind 2's"]);
         assert_eq!(names_of(&examples::p_for_two()[..5]), [""; 0]);
         assert_eq!(names_of(&[0, 0, 0, 0, 2, 0]), ["refused 4, kind 2", "refused 4, kind 2, count out of range too"]);
     }
 
+    /// P with other kinds. P for two, its kind taken for 1, has a wrong length.
+    #[test]
+    fn other_kinds_by_hand() {
+        let with_kind = |bytes: &[u8], kind: u16| {
+            let mut changed = bytes.to_vec();
+            changed[KIND_AT..KIND_AT + 2].copy_from_slice(&kind.to_le_bytes());
+            names_of(&changed)
+        };
+        for (kind, name) in [
+            (0, "kind 0"),
+            (3, "kind 3"),
+            (4, "kind from 4 to 255"),
+            (255, "kind from 4 to 255"),
+            (256, "another kind above 255"),
+            (257, "kind 257"),
+            (258, "kind 258"),
+            (0xFFFF, "another kind above 255"),
+        ] {
+            assert_eq!(with_kind(&examples::p(), kind), [format!("refused 3, {}, passes as kind 1", name)]);
+            assert_eq!(with_kind(&examples::p_for_two(), kind), [format!("refused 3, {}, passes as kind 2", name)]);
+        }
+        assert_eq!(with_kind(&examples::p_with_classes_0_1(), 3), [""; 0]);
+        assert_eq!(
+            with_kind(&examples::p(), 2),
+            [
+                "refused 5, kind 2",
+                "refused 5, kind 2, the length is kind 1's",
+                "refused 5, kind 2, count out of range too",
+                "refused 5, kind 2, count 0"
+            ]
+        );
+    }
+
     #[test]
     fn verdicts_by_hand() {
-        let _before = describe_lists();
         assert_eq!(
             of_p(&[]),
             [
@@ -376,12 +531,5 @@ mod tests {
                 "passes, 4 observers and 0 events",
             ]
         );
-    }
-
-    #[test]
-    fn none_before_kind_2_is_described() {
-        let _before = describe(&[1]);
-        assert_eq!(names(), [""; 0]);
-        assert_eq!(names_of(&examples::p_for_two()), [""; 0]);
     }
 }

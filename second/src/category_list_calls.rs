@@ -1,29 +1,24 @@
-//! Categories of explanations, closures, joins and hookups by lists of observers, once kind 2 is described.
+//! Categories of explanations, closures, joins and hookups by lists of observers.
 
 use crate::category_explain::break_of;
 use crate::category_list::{counts, lists_observers};
 use crate::closure::{self, ClosureAnswer, PIECE};
 use crate::explain::{ExplainAnswer, Explanation};
 use crate::join::{self, JoinAnswer};
-use crate::record::{self, is_described, longest, Part, MOST_LISTED};
-use crate::wrong_list::{self, class_counts_that_differ, is_front, BLOCKS, CLASS_COUNTS, COUNTS, DIFFER};
+use crate::record::{self, longest, Part, MOST_LISTED};
+use crate::wrong_list_calls::{
+    self, class_counts_that_differ, is_front, place_of, BLOCKS, CLASS_COUNTS, COUNTS, DIFFER, LEVELS,
+};
 
 /// The wrong readings are tried on parts of so many states at most; on larger ones they would take too long.
 const MOST_STATES_MISREAD: usize = 24;
-
-fn if_described(names: Vec<String>) -> Vec<String> {
-    if is_described(2) {
-        names
-    } else {
-        Vec::new()
-    }
-}
 
 /// Every category of explanations.
 pub fn explain_names() -> Vec<String> {
     let mut names = Vec::new();
     for i in 1..=MOST_LISTED {
         names.push(format!("explained, tells observer {} of several", i));
+        names.push(own_count_name(i));
     }
     for verdict in ["passes", "breaks rule 4", "breaks rule 5"] {
         names.push(format!("explained, {}, the observers' counts differ", verdict));
@@ -32,7 +27,15 @@ pub fn explain_names() -> Vec<String> {
     for (name, _) in COUNTS {
         names.push(format!("wrong count of several observers differs: {}", name));
     }
-    if_described(names)
+    for (name, _) in LEVELS {
+        names.push(format!("wrong level told differs: {}", name));
+    }
+    names
+}
+
+/// A break tells this observer, and its count tells it from the others.
+pub fn own_count_name(i: usize) -> String {
+    format!("explained, tells observer {} of several, no other has its count", i)
 }
 
 /// The categories of one explanation.
@@ -47,11 +50,14 @@ pub fn of_explain(bytes: &[u8], answer: ExplainAnswer) -> Vec<String> {
 
 fn explained_names(part: &Part, explanation: &Explanation) -> Vec<String> {
     let found = break_of(explanation);
-    let taken = wrong_list::counts(part);
+    let taken = wrong_list_calls::counts(part);
     let mut names = Vec::new();
     if let Some(broken) = found {
-        let i = part.levels().iter().position(|&level| level == broken.observer).unwrap();
+        let i = place_of(part, broken);
         names.push(format!("explained, tells observer {} of several", i + 1));
+        if taken.iter().filter(|&&count| count == explanation.taken).count() == 1 && broken.rule >= 4 {
+            names.push(own_count_name(i + 1));
+        }
         if i > 0 && (2..=3).contains(&broken.rule) {
             names.push("explained, breaks rule 2 or 3, the first observer's count not zero".to_string());
         }
@@ -66,6 +72,11 @@ fn explained_names(part: &Part, explanation: &Explanation) -> Vec<String> {
     for (name, count) in COUNTS {
         if count(part, found) != explanation.taken {
             names.push(format!("wrong count of several observers differs: {}", name));
+        }
+    }
+    for (name, level) in LEVELS {
+        if level(part, found) as u64 != explanation.observer {
+            names.push(format!("wrong level told differs: {}", name));
         }
     }
     names
@@ -89,7 +100,7 @@ pub fn closure_names() -> Vec<String> {
     for (name, _) in BLOCKS {
         names.push(format!("wrong blocks differ: {}", name));
     }
-    if_described(names)
+    names
 }
 
 /// The categories of one call for closures.
@@ -148,11 +159,15 @@ pub fn pair_names() -> Vec<String> {
         "9, B's list goes on behind A's",
         "9, as many observers, the first differs alone",
         "9, as many observers, the last differs alone",
+        "9, as many observers, one between differs alone",
+        "9, several observers, an event clashes too",
+        "9, several observers, too large too",
         "9, A of kind 1 and B of kind 2",
         "9, A of kind 2 and B of kind 1",
         "9, A of kind 1 and B of kind 2, A's observer in B's list",
         "9, A of kind 2 and B of kind 1, B's observer in A's list",
         "10, several observers",
+        "10, several observers, too large too",
         "11, several observers",
         "joined, several observers, numbers of B's classes differ",
         "joined, several observers, joined columns differ",
@@ -168,17 +183,22 @@ pub fn pair_names() -> Vec<String> {
     for (name, _) in CLASS_COUNTS {
         names.push(format!("wrong number of classes differs: {}", name));
     }
-    if_described(names)
+    names
 }
 
 /// Every category of joins.
 pub fn join_names() -> Vec<String> {
     let mut names = pair_names();
-    if is_described(2) {
-        names.push(longest_name());
-        names.push("refused 15, several observers".to_string());
-        names.push("refused 15, several observers, one byte short".to_string());
-        names.push("refused 15, several observers, room for one column".to_string());
+    names.push(longest_name());
+    for name in [
+        "9, several observers, no room either",
+        "10, several observers, no room either",
+        "11, several observers, no room either",
+        "refused 15, several observers",
+        "refused 15, several observers, one byte short",
+        "refused 15, several observers, room for one column",
+    ] {
+        names.push(name.to_string());
     }
     names
 }
@@ -195,8 +215,13 @@ pub fn of_join(a: &[u8], b: &[u8], room: usize, answer: JoinAnswer) -> Vec<Strin
     let (a, b) = (record::read(a).unwrap(), record::read(b).unwrap());
     if answer != JoinAnswer::Refused(15) {
         let mut names = of_pair(&a, &b);
-        if answer == JoinAnswer::Length(longest()) {
-            names.push(longest_name());
+        match answer {
+            JoinAnswer::Length(length) if length == longest() => names.push(longest_name()),
+            JoinAnswer::Length(_) => {}
+            refused if room == 0 => {
+                names.push(format!("{}, several observers, no room either", join::number(refused)));
+            }
+            _ => {}
         }
         return names;
     }
@@ -220,9 +245,21 @@ pub fn of_pair(a: &Part, b: &Part) -> Vec<String> {
     match join::refusal_of_pair(a, b) {
         Some(JoinAnswer::Refused(9)) => differ_names(a, b),
         Some(JoinAnswer::Refused(11)) => vec!["11, several observers".to_string()],
-        Some(_) => vec!["10, several observers".to_string()],
+        Some(_) => clash_names(a, b),
         None => joined_names(a, b),
     }
+}
+
+fn are_too_large(a: &Part, b: &Part) -> bool {
+    join::too_many_states(a, b) || join::too_many_entries(a, b)
+}
+
+fn clash_names(a: &Part, b: &Part) -> Vec<String> {
+    let mut names = vec!["10, several observers".to_string()];
+    if are_too_large(a, b) {
+        names.push("10, several observers, too large too".to_string());
+    }
+    names
 }
 
 fn differ_names(a: &Part, b: &Part) -> Vec<String> {
@@ -239,6 +276,10 @@ fn differ_names(a: &Part, b: &Part) -> Vec<String> {
     add(is_front(a, b), "9, B's list goes on behind A's");
     add(as_many && different == [0], "9, as many observers, the first differs alone");
     add(as_many && different == [x.len() - 1], "9, as many observers, the last differs alone");
+    let is_between = as_many && different.len() == 1 && 0 < different[0] && different[0] < x.len() - 1;
+    add(is_between, "9, as many observers, one between differs alone");
+    add(join::smallest_clash(a, b).is_some(), "9, several observers, an event clashes too");
+    add(are_too_large(a, b), "9, several observers, too large too");
     add(x.len() == 1, "9, A of kind 1 and B of kind 2");
     add(y.len() == 1, "9, A of kind 2 and B of kind 1");
     add(x.len() == 1 && y.contains(&x[0]), "9, A of kind 1 and B of kind 2, A's observer in B's list");
@@ -269,7 +310,6 @@ mod tests {
     use super::*;
     use crate::examples;
     use crate::explain;
-    use crate::record::described::{describe, describe_lists};
 
     /// The names that are not about wrong readings.
     fn right(mut names: Vec<String>, all: Vec<String>) -> Vec<String> {
@@ -280,7 +320,6 @@ mod tests {
 
     #[test]
     fn explanations_by_hand() {
-        let _before = describe_lists();
         let of_t = |first, second| {
             let bytes = record::write(&examples::t_for_two(first, second));
             right(of_explain(&bytes, explain::explain(&bytes, &mut [0; 64])), explain_names())
@@ -288,7 +327,11 @@ mod tests {
         assert_eq!(of_t([0, 0, 0], [0, 1, 2]), ["explained, passes, the observers' counts differ"]);
         assert_eq!(
             of_t([0, 0, 0], [0, 0, 1]),
-            ["explained, tells observer 2 of several", "explained, breaks rule 5, the observers' counts differ"]
+            [
+                "explained, tells observer 2 of several",
+                "explained, tells observer 2 of several, no other has its count",
+                "explained, breaks rule 5, the observers' counts differ"
+            ]
         );
         let wrong = |first, second| {
             let bytes = record::write(&examples::t_for_two(first, second));
@@ -298,14 +341,23 @@ mod tests {
         };
         assert_eq!(
             wrong([0, 0, 0], [0, 0, 1]),
-            ["the first observer's at a break of a later one", "of all observers together", "the greatest"]
+            [
+                "the first observer's at a break of a later one",
+                "of all observers together",
+                "the greatest",
+                "the first observer's",
+                "the observer's place in the list",
+                "none",
+            ]
         );
-        assert_eq!(wrong([0, 0, 0], [0, 1, 2]), ["the last observer's where it passes", "of all observers together"]);
+        assert_eq!(
+            wrong([0, 0, 0], [0, 1, 2]),
+            ["the last observer's where it passes", "of all observers together", "the least"]
+        );
     }
 
     #[test]
     fn closures_by_hand() {
-        let _before = describe_lists();
         let bytes = record::write(&examples::t_for_two([0, 0, 0], [0, 1, 2]));
         let of_room = |room: usize| {
             let answer = closure::closure(&bytes, &mut vec![0; room]);
@@ -324,7 +376,6 @@ mod tests {
 
     #[test]
     fn joins_by_hand() {
-        let _before = describe_lists();
         let of = |a: &[u8], b: &[u8], room: usize| {
             let answer = join::join(a, b, &mut vec![0; room]);
             right(of_join(a, b, room, answer), join_names())
@@ -361,13 +412,5 @@ mod tests {
             of(&two, &two, 11),
             ["refused 15, several observers", "refused 15, several observers, room for one column"]
         );
-    }
-
-    #[test]
-    fn none_before_kind_2_is_described() {
-        let _before = describe(&[1]);
-        for names in [explain_names(), closure_names(), pair_names(), join_names()] {
-            assert_eq!(names, [""; 0]);
-        }
     }
 }

@@ -4,6 +4,7 @@ use crate::answer::Answer;
 use crate::category;
 use crate::category_join::{self, clashes};
 use crate::category_list_calls::{of_pair, pair_names};
+use crate::category_list_replay as list;
 use crate::check::{self, Verdict};
 use crate::examples;
 use crate::join;
@@ -95,6 +96,7 @@ pub fn names() -> Vec<String> {
     for name in pair_names() {
         names.push(format!("hookup, {}", name));
     }
+    names.extend(list::names());
     names
 }
 
@@ -204,12 +206,14 @@ fn operation_names(capacity: usize, held: &mut Vec<Held>, done: &Done) -> Vec<St
             names.push("clear".to_string());
             if !held.is_empty() {
                 names.push("clear behind loads".to_string());
+                names.extend(list::of_clear(&parts_of(held)));
             }
             held.clear();
         }
         (Operation::Clear, _) => names.push("clear refused 12".to_string()),
         (Operation::Load(record), Effect::Answer(answer)) => {
             let verdict = verdict_of_load(*answer).unwrap_or_else(|| check::check(record));
+            names.extend(list::of_load(record, *answer, verdict, room, no_room));
             if *answer == Answer::Refused(12) {
                 names.push("load refused 12".to_string());
                 if verdict != Verdict::Pass {
@@ -251,14 +255,19 @@ fn operation_names(capacity: usize, held: &mut Vec<Held>, done: &Done) -> Vec<St
         (Operation::Hookup(i, j), Effect::Answer(answer)) => {
             names.extend(hookup_names(held, *i as usize, *j as usize, *answer, room, no_room));
         }
-        (Operation::Count, Effect::Count(Some(_))) => names.push("count".to_string()),
+        (Operation::Count, Effect::Count(Some(_))) => {
+            names.push("count".to_string());
+            names.extend(list::of_count(&parts_of(held)));
+        }
         (Operation::Count, _) => names.push("count refused 12".to_string()),
         (Operation::Part(i), Effect::Part(bytes)) => {
             if !bytes.is_empty() {
                 names.push("part".to_string());
-                if held[*i as usize].joined {
+                let named = &held[*i as usize];
+                if named.joined {
                     names.push("part of a joined record".to_string());
                 }
+                names.extend(list::of_part(&named.part, named.joined));
             } else if done.end_before.is_none() {
                 names.push("part, 12".to_string());
             } else {
@@ -268,6 +277,10 @@ fn operation_names(capacity: usize, held: &mut Vec<Held>, done: &Done) -> Vec<St
         _ => unreachable!(),
     }
     names
+}
+
+fn parts_of(held: &[Held]) -> Vec<&Part> {
+    held.iter().map(|named| &named.part).collect()
 }
 
 fn hookup_names(held: &mut Vec<Held>, i: usize, j: usize, answer: Answer, room: usize, no_room: bool) -> Vec<String> {
@@ -290,10 +303,13 @@ fn hookup_names(held: &mut Vec<Held>, i: usize, j: usize, answer: Answer, room: 
         if no_room {
             add("hookup refused 13, no room either");
         }
+        let part = |i: usize| held.get(i).map(|named| &named.part);
+        names.extend(list::of_missing(part(i), part(j)));
         return names;
     }
     let a = &held[i].part;
     let b = &held[j].part;
+    let of_lists = list::of_hookup((i, a, held[i].joined), (j, b, held[j].joined), answer, room, no_room);
     if answer != Answer::Refused(15) {
         for name in of_pair(a, b) {
             add(&format!("hookup, {}", name));
@@ -368,5 +384,6 @@ fn hookup_names(held: &mut Vec<Held>, i: usize, j: usize, answer: Answer, room: 
         }
         _ => unreachable!(),
     }
+    names.extend(of_lists);
     names
 }

@@ -141,7 +141,6 @@ mod tests {
     use crate::check::passes;
     use crate::examples;
     use crate::make::{self, Shape, SHAPES};
-    use crate::record::described::describe_lists;
     use crate::record::{Event, Kind, Part};
     use crate::rng::Rng;
 
@@ -283,7 +282,6 @@ mod tests {
     /// observer T's output is quiet, and its quiet reaches are 0 and 2, 1, 2; to the second one it is not.
     #[test]
     fn numbers_of_several_observers() {
-        let _before = describe_lists();
         let explained_t = |first, second| explained(&record::write(&examples::t_for_two(first, second)));
         assert_eq!(explained_t([0, 0, 0], [0, 1, 2]), [0, 0, 0, 0, 0, 4, 0, 1]);
         assert_eq!(explained_t([0, 0, 0], [0, 0, 1]), [5, 1, 0, 2, 1, 3, 0x40, 0]);

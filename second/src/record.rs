@@ -3,10 +3,6 @@
 
 use std::ops::Deref;
 
-/// Request k, "a kind not described so far": the kinds of records that are described so far. Kind 2 has its form below;
-/// what is asked of it, made and counted for it begins when it stands here.
-pub const KINDS: &[u16] = &[1];
-
 /// The kind of an event.
 #[derive(Clone, Copy, PartialEq, Eq, Debug)]
 pub enum Kind {
@@ -217,38 +213,26 @@ pub enum First {
     Count,
 }
 
-/// The form of a kind of records: what the first byte of the body tells, how many class columns each observer has, and
-/// the refusals that come for this kind alone.
+/// The form of a kind of records: what the first byte of the body tells, and how many class columns each observer has.
 #[derive(Clone, Copy, Debug)]
 pub struct Form {
     pub kind: u16,
     pub first: First,
     pub columns: usize,
-    pub refusals: &'static [u32],
 }
 
-/// Document 01's records, and those of request k.
-pub const FORMS: [Form; 2] = [
-    Form { kind: 1, first: First::Level, columns: 1, refusals: &[] },
-    Form { kind: 2, first: First::Count, columns: 1, refusals: &[20] },
-];
+/// The kinds of records that are described: document 01's, and that of request k. All others are refused with 3.
+pub const FORMS: [Form; 2] =
+    [Form { kind: 1, first: First::Level, columns: 1 }, Form { kind: 2, first: First::Count, columns: 1 }];
 
 /// Request k: how many observers a record of kind 2 may list.
 pub const FEWEST_LISTED: usize = 2;
 pub const MOST_LISTED: usize = 4;
 
-/// Is the kind described so far?
+/// Is the kind described?
 pub fn is_described(kind: u16) -> bool {
-    kinds().contains(&kind)
+    FORMS.iter().any(|form| form.kind == kind)
 }
-
-/// The kinds described so far. The tests may describe more of them for a while.
-#[cfg(not(test))]
-pub fn kinds() -> &'static [u16] {
-    KINDS
-}
-#[cfg(test)]
-pub use described::kinds;
 
 /// "The part record", request k: the form of a part's record, by its number of observers.
 pub fn form_of(part: &Part) -> Form {
@@ -340,9 +324,9 @@ impl Layout {
     }
 }
 
-/// "The part record", request k: the number of bytes of the longest record of a kind described so far.
+/// "The part record", request k: the number of bytes of the longest record.
 pub fn longest() -> usize {
-    let lengths = FORMS.into_iter().filter(|form| is_described(form.kind)).map(|form| {
+    let lengths = FORMS.into_iter().map(|form| {
         let observers = if form.first == First::Count { MOST_LISTED } else { 1 };
         HEADER + Layout { form, observers, n: 64, m: 32 }.body_length()
     });
@@ -490,13 +474,6 @@ pub fn refusal_8(bytes: &[u8]) -> bool {
 /// "Order", requests d and k: the refusals of a record, in the order in which they are tested.
 pub const ORDER: [u32; 10] = [1, 2, 3, 4, 5, 20, 6, 7, 16, 8];
 
-/// Those of them that can come: some come for one kind alone.
-pub fn order() -> Vec<u32> {
-    let cannot_come =
-        |number: u32| FORMS.iter().any(|form| form.refusals.contains(&number) && !is_described(form.kind));
-    ORDER.into_iter().filter(|&number| !cannot_come(number)).collect()
-}
-
 /// Does the refusal of this number apply? Of 1 to 5 and 20, those before it must not.
 pub fn applies(number: u32, bytes: &[u8]) -> bool {
     match number {
@@ -610,42 +587,8 @@ pub fn write(part: &Part) -> Vec<u8> {
     bytes
 }
 
-/// For the tests: kinds that are described for a while, on the test's own thread alone.
-#[cfg(test)]
-pub mod described {
-    use std::cell::Cell;
-
-    thread_local! {
-        static DESCRIBED: Cell<&'static [u16]> = const { Cell::new(super::KINDS) };
-    }
-
-    pub fn kinds() -> &'static [u16] {
-        DESCRIBED.get()
-    }
-
-    /// What was described before; it is again once this is dropped.
-    pub struct Before(&'static [u16]);
-
-    impl Drop for Before {
-        fn drop(&mut self) {
-            DESCRIBED.set(self.0);
-        }
-    }
-
-    /// Describes kinds 1 and 2 for as long as the answer is kept.
-    pub fn describe_lists() -> Before {
-        describe(&[1, 2])
-    }
-
-    /// Describes these kinds for as long as the answer is kept.
-    pub fn describe(kinds: &'static [u16]) -> Before {
-        Before(DESCRIBED.replace(kinds))
-    }
-}
-
 #[cfg(test)]
 mod tests {
-    use super::described::{describe, describe_lists};
     use super::*;
     use crate::examples;
     use crate::make;
@@ -665,6 +608,7 @@ mod tests {
     fn the_largest_record() {
         let form = FORMS[0];
         assert_eq!(Layout { form, observers: 1, n: 64, m: 32 }.body_length(), 16_580);
+        assert_eq!(longest(), 16_782);
     }
 
     #[test]
@@ -674,7 +618,6 @@ mod tests {
             let part = make::any_passing(&mut rng);
             assert_eq!(read(&write(&part)), Ok(part));
         }
-        let _before = describe_lists();
         for _ in 0..200 {
             let part = make::any_list(&mut rng);
             assert_eq!(read(&write(&part)), Ok(part));
@@ -736,25 +679,20 @@ mod tests {
     /// Request k: "Refusal 3 is now a kind not described so far".
     #[test]
     fn kinds_not_described() {
-        let _before = describe(&[1]);
-        assert_eq!(first_refusal(&examples::p()), None);
-        assert_eq!(first_refusal(&examples::p_for_two()), Some(3));
-        assert_eq!(order(), [1, 2, 3, 4, 5, 6, 7, 16, 8]);
-        assert_eq!(longest(), 16_586);
-        let _before = describe_lists();
         assert_eq!(first_refusal(&examples::p()), None);
         assert_eq!(first_refusal(&examples::p_for_two()), None);
-        for (at, byte) in [(4, 0), (4, 3), (4, 0xFF), (5, 1)] {
+        for (at, byte) in [(4, 0), (4, 3), (4, 4), (4, 0xFF), (5, 1), (5, 0xFF)] {
+            assert_eq!(first_refusal(&examples::p_with(&[(at, byte)])), Some(3));
             assert_eq!(first_refusal(&examples::p_for_two_with(&[(at, byte)])), Some(3));
         }
-        assert_eq!(order(), [1, 2, 3, 4, 5, 20, 6, 7, 16, 8]);
-        assert_eq!(longest(), 16_782);
+        // Each with the other's kind: its length does not fit.
+        assert_eq!(first_refusal(&examples::p_with(&[(4, 2)])), Some(5));
+        assert_eq!(first_refusal(&examples::p_for_two_with(&[(4, 1)])), Some(5));
     }
 
     /// Request k: the count, n, start and m, the observers, a class column for each, the entries, the rows.
     #[test]
     fn fields_of_a_list() {
-        let _before = describe_lists();
         let p = read(&examples::p()).unwrap();
         let part = read(&examples::p_for_two()).unwrap();
         let first = Observer { level: 0x00, classes: vec![0, 0] };
@@ -787,7 +725,6 @@ mod tests {
     /// as it stands.
     #[test]
     fn counts_out_of_range() {
-        let _before = describe_lists();
         for count in [0, 1, 3, 4, 5, 255] {
             assert_eq!(first_refusal(&examples::p_for_two_with(&[(6, count)])), Some(5));
         }
@@ -821,7 +758,6 @@ mod tests {
     /// Request k: "observers in strictly rising byte order".
     #[test]
     fn observers_that_do_not_rise() {
-        let _before = describe_lists();
         for (levels, refusal) in [
             (&[0x40, 0x40][..], Some(20)),
             (&[0x40, 0x00], Some(20)),
@@ -841,7 +777,6 @@ mod tests {
     /// entries begin at 16 and 20, its rows at 24.
     #[test]
     fn each_refusal_of_a_list_by_a_minimal_damage() {
-        let _before = describe_lists();
         for (at, byte, refusal) in [
             (0, 0x31, 2),
             (7, 0, 4),
@@ -876,7 +811,6 @@ mod tests {
     /// Request k: 20 comes after 5 and before 6. Every damage is in place; they are taken away from the first one on.
     #[test]
     fn order_of_refusals_of_a_list() {
-        let _before = describe_lists();
         let p = examples::p_for_two();
         let mut bytes = p.clone();
         // A stray bit, a bad level, a kind above 2, a class too high in the second column, equal observers, 33 events, a

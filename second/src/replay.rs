@@ -250,7 +250,6 @@ mod tests {
     use crate::examples;
     use crate::make::Script;
     use crate::record;
-    use crate::record::described::{describe, describe_lists};
 
     fn text(script: &[u8]) -> String {
         String::from_utf8(replay(script).output).unwrap()
@@ -324,11 +323,7 @@ mod tests {
             front,
             "aa".repeat(200 - 56 - 23 - 6)
         );
-        let before = describe_lists();
         assert_eq!(text(&script.bytes), expected);
-        drop(before);
-        let _before = describe(&[1]);
-        assert!(text(&script.bytes).starts_with("0\nrefused 3\nrefused 3\nrefused 3\npart 0\n"));
     }
 
     #[test]

@@ -128,7 +128,6 @@ pub fn part(shelf: &[u8], i: usize) -> &[u8] {
 mod tests {
     use super::*;
     use crate::examples;
-    use crate::record::described::describe_lists;
 
     #[test]
     fn examples_of_shelf_length() {
@@ -170,7 +169,6 @@ mod tests {
     /// Parts of one observer and of two stand side by side; they do not join.
     #[test]
     fn lists_on_the_shelf() {
-        let _before = describe_lists();
         let mut shelf = vec![0x55; 300];
         clear(&mut shelf);
         assert_eq!(load(&mut shelf, &examples::p_for_two()), Answer::Part(0));
@@ -182,9 +180,27 @@ mod tests {
         assert_eq!(hookup(&mut shelf, 0, 1), Answer::Part(3));
         assert_eq!(part(&shelf, 3), &examples::p_for_two_with(&[(22, 2)])[..]);
         assert_eq!(count(&shelf), Some(4));
-        // The second observer's column changed on the shelf: its class 1 is not numbered by first appearance any more.
-        shelf[14] = 1;
-        assert_eq!(hookup(&mut shelf, 0, 1), Answer::Refused(14));
+    }
+
+    /// P for two observers, changed on the shelf: another kind, another count, equal observers, a bad level, a column not
+    /// numbered by first appearance, a break for the first observer, a break for the second alone.
+    #[test]
+    fn refusal_14_for_a_list_on_the_shelf() {
+        let mut shelf = vec![0x55; 300];
+        clear(&mut shelf);
+        load(&mut shelf, &examples::p_for_two());
+        load(&mut shelf, &examples::q_for_two());
+        for (at, byte) in [(4, 3), (6, 3), (11, 0x00), (11, 0x01), (14, 1), (13, 1), (19, 0x80)] {
+            let mut changed = shelf.clone();
+            changed[at] = byte;
+            let before = changed.clone();
+            for (i, j) in [(0, 1), (1, 0), (0, 0)] {
+                assert_eq!(hookup(&mut changed, i, j), Answer::Refused(14), "byte {}", at);
+            }
+            assert_eq!(hookup(&mut changed, 0, 2), Answer::Refused(13));
+            assert_eq!(changed, before);
+        }
+        assert_eq!(hookup(&mut shelf, 0, 1), Answer::Part(2));
     }
 
     fn answer_of_p_0_1() -> Answer {

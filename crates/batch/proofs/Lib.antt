@@ -1,4 +1,3 @@
-pub mod Slots
 pub mod Calls
 pub mod Runs
 pub mod Theorems

@@ -4,49 +4,44 @@ use mathlib.Core.Path.{_≡_, refl, sym, ap, _∙_}
 use mathlib.Core.List.{List, [], _∷_}
 use mathlib.Core.Option.{none, some, Option·map}
 use native.Mathlib.Omega.{arith}
-use lib.ListN.{length, drop, length-drop, length-append}
+use lib.ListN.{length, getD, drop, length-drop, length-append}
 use lib.Seq.{drop-drop}
 use borrow.Author.Tests.{lt-ltb, le-ltb}
-use Rattle.words.specs.LittleEndian.{digits}
+use Rattle.bounded.specs.Search.{each}
+use Rattle.words.specs.LittleEndian.{digits, as-words}
 use Rattle.words.specs.Laid.{over}
-use Rattle.words.proofs.LittleEndian.{length-digits}
+use Rattle.words.proofs.LittleEndian.{length-digits, length-each}
 use Rattle.words.proofs.LaidLaws.{length-over, over-nothing, over-append}
 use Rattle.script.specs.Operation.{operation, size}
 use Rattle.store.specs.Answer.{Answer, gives, refused, clash, breaks}
 use Rattle.store.specs.Model.{Call}
 use Rattle.store.specs.Demand.{step, shelf-after, shelf-answers}
 use Rattle.batch.specs.Script.{calls, listed}
-use Rattle.batch.specs.Slots.{numbers, words, slots}
+use Rattle.batch.specs.Slots.{numbers, slots}
 use Rattle.batch.specs.Performed.{Done, Performed}
 use Rattle.batch.specs.Running.{Outcome, ran, malformed, too-few, Left, run-calls, run}
 use Rattle.batch.proofs.Calls.{calls-none-left, call-sized, First, calls-first, listed-none}
 
 -- ---- the answers
 
-length-words : (ns : List ℕ) → length (words ns) ≡ length ns * 8
-unfolding words
-length-words [] = refl
-length-words (n ∷ ns) =
-    let one = length-append (digits 8 n) (words ns) in
-    let eight = length-digits 8 n in
-    let more = length-words ns in
-    omega arith
+eight-words : (ns : List ℕ) → length (each 8 (λ i. digits 8 (getD ns i 0))) ≡ 64
+eight-words ns = length-each 8 8 (λ i. digits 8 (getD ns i 0)) (λ i l. length-digits 8 _)
 
--- An answer takes 48 bytes.
-length-answer : (a : Answer) → length (words (numbers a)) ≡ 48
-unfolding numbers
-length-answer (gives n) = length-words (0 ∷ n ∷ 0 ∷ 0 ∷ 0 ∷ 0 ∷ [])
-length-answer (refused k) = length-words (1 ∷ k ∷ 0 ∷ 0 ∷ 0 ∷ 0 ∷ [])
-length-answer (clash e) = length-words (2 ∷ e ∷ 0 ∷ 0 ∷ 0 ∷ 0 ∷ [])
-length-answer (breaks v) = length-words (3 ∷ v .rule ∷ v .event ∷ v .s ∷ v .t ∷ v .u ∷ [])
+-- An answer takes 64 bytes.
+length-answer : (a : Answer) → length (as-words (numbers a)) ≡ 64
+unfolding as-words numbers
+length-answer (gives n) = eight-words (0 ∷ n ∷ 0 ∷ 0 ∷ 0 ∷ 0 ∷ 0 ∷ 0 ∷ [])
+length-answer (refused k) = eight-words (1 ∷ k ∷ 0 ∷ 0 ∷ 0 ∷ 0 ∷ 0 ∷ 0 ∷ [])
+length-answer (clash e) = eight-words (2 ∷ e ∷ 0 ∷ 0 ∷ 0 ∷ 0 ∷ 0 ∷ 0 ∷ [])
+length-answer (breaks v) = eight-words (3 ∷ v .rule ∷ v .event ∷ v .s ∷ v .t ∷ v .u ∷ v .level ∷ 0 ∷ [])
 
 -- The first answer laid, and the others behind it.
 over-slots : (out : List ℕ) (at : ℕ) (a : Answer) (more : List Answer)
-    → over out at (slots (a ∷ more)) ≡ over (over out at (words (numbers a))) (at + 48) (slots more)
+    → over out at (slots (a ∷ more)) ≡ over (over out at (as-words (numbers a))) (at + 64) (slots more)
 unfolding slots
 over-slots out at a more =
-    over-append out at (words (numbers a)) (slots more)
-    ∙ ap (λ (k : ℕ). over (over out at (words (numbers a))) (at + k) (slots more)) (length-answer a)
+    over-append out at (as-words (numbers a)) (slots more)
+    ∙ ap (λ (k : ℕ). over (over out at (as-words (numbers a))) (at + k) (slots more)) (length-answer a)
 
 -- ---- the calls made so far
 
@@ -58,12 +53,12 @@ pub record Made (script shelf₀ out₀ shelf out : List ℕ) (at slot : ℕ) : 
   pub same-shelf : shelf-after left shelf ≡ shelf-after (listed script) shelf₀
   pub same-answers : over out slot (slots (shelf-answers left shelf))
       ≡ over out₀ 0 (slots (shelf-answers (listed script) shelf₀))
-  pub room : slot + length left * 48 ≤ length out
+  pub room : slot + length left * 64 ≤ length out
   pub shelf-size : length shelf ≡ length shelf₀
   pub out-size : length out ≡ length out₀
 
 pub made-none : (script shelf out : List ℕ) → calls script ≡ some (listed script)
-    → length (listed script) * 48 ≤ length out
+    → length (listed script) * 64 ≤ length out
     → Made script shelf out shelf out 0 0
 made-none script shelf out e h = record {
   left = listed script;
@@ -93,7 +88,7 @@ module _ (script shelf₀ out₀ shelf out : List ℕ) (at slot : ℕ) (m : Made
     next-call = calls-first (drop at script) (m .left) (simp length-drop (omega arith)) (m .behind)
 
     -- There is room for its answer.
-    pub made-room : slot + 48 ≤ length out
+    pub made-room : slot + 64 ≤ length out
     made-room = omega (arith, ap length (next-call .all))
 
     module _ (shelf' out' : List ℕ) (next : ℕ) (one : Performed script at shelf shelf' out slot out' next) where
@@ -103,7 +98,7 @@ module _ (script shelf₀ out₀ shelf out : List ℕ) (at slot : ℕ) (m : Made
       pub made-further : at < next
       made-further = omega (arith, done .behind, call-sized (drop at script) (next-call .call) (next-call .is))
 
-      pub made-next : length shelf' ≡ length shelf → Made script shelf₀ out₀ shelf' out' next (slot + 48)
+      pub made-next : length shelf' ≡ length shelf → Made script shelf₀ out₀ shelf' out' next (slot + 64)
       unfolding shelf-after shelf-answers
       made-next same =
           let f = next-call in
@@ -112,7 +107,7 @@ module _ (script shelf₀ out₀ shelf out : List ℕ) (at slot : ℕ) (m : Made
           let whole = call-sized (drop at script) c (f .is) in
           let left-bytes = length-drop at script in
           let count = ap length (f .all) in
-          let laid = length-over out slot (words (numbers (step c shelf .answer))) in
+          let laid = length-over out slot (as-words (numbers (step c shelf .answer))) in
           let as-long : length out' ≡ length out = cc in
           record {
             left = f .others;
@@ -139,11 +134,11 @@ module _ (script s out : List ℕ) where
   run-malformed e = let so = listed-none script e in rw (so, run) (refl, (refl, refl))
 
   module _ (cs : List Call) (all : calls script ≡ some cs) where
-    pub run-too-few : length out < length cs * 48 → Leaves (run script s out) too-few s out
+    pub run-too-few : length out < length cs * 64 → Leaves (run script s out) too-few s out
     unfolding run run-calls
-    run-too-few h = let small = lt-ltb (length out) (length cs * 48) h in rw (all, run, small) (refl, (refl, refl))
+    run-too-few h = let small = lt-ltb (length out) (length cs * 64) h in rw (all, run, small) (refl, (refl, refl))
 
-    pub run-all : length cs * 48 ≤ length out
+    pub run-all : length cs * 64 ≤ length out
         → Leaves (run script s out) (ran (length cs)) (shelf-after cs s) (over out 0 (slots (shelf-answers cs s)))
     unfolding run run-calls
-    run-all h = let enough = le-ltb (length out) (length cs * 48) h in rw (all, run, enough) (refl, (refl, refl))
+    run-all h = let enough = le-ltb (length out) (length cs * 64) h in rw (all, run, enough) (refl, (refl, refl))

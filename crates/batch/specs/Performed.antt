@@ -4,13 +4,14 @@ use mathlib.Core.Path.{_≡_}
 use mathlib.Core.List.{List}
 use mathlib.Core.Option.{some}
 use lib.ListN.{drop}
+use Rattle.words.specs.LittleEndian.{as-words}
 use Rattle.words.specs.Laid.{over}
 use Rattle.script.specs.Operation.{Operation, operation, size}
 use Rattle.store.specs.Answer.{Answer}
 use Rattle.store.specs.Model.{Call}
 use Rattle.store.specs.Demand.{step}
 use Rattle.batch.specs.Script.{call-of}
-use Rattle.batch.specs.Slots.{numbers, words}
+use Rattle.batch.specs.Slots.{numbers}
 
 -- If the operation o is a call, a is its answer on the shelf s, and s' the shelf after it.
 abbrev pub Answered : Operation → List ℕ → Answer → List ℕ → Type 0
@@ -19,7 +20,7 @@ Answered o s a s' = (c : Call) → call-of o ≡ some c → (a ≡ step c s .ans
 -- The shelf after the call c, its answer laid over the answers from a place on, and the place behind its operation o.
 pub record Done (c : Call) (s s' out : List ℕ) (slot : ℕ) (out' : List ℕ) (at next : ℕ) (o : Operation) : Type 0 where
   pub shelf : s' ≡ step c s .shelf
-  pub answers : out' ≡ over out slot (words (numbers (step c s .answer)))
+  pub answers : out' ≡ over out slot (as-words (numbers (step c s .answer)))
   pub behind : next ≡ at + size o
 
 -- If a call stands at a place of the script, it is done.

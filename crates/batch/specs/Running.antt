@@ -22,10 +22,10 @@ pub record Left : Type 0 where
   pub shelf : List ℕ
   pub answers : List ℕ
 
--- 48 bytes for each answer.
+-- 64 bytes for each answer.
 unfoldable pub run-calls : List Call → List ℕ → List ℕ → Left
 run-calls cs s out =
-    cond (ltb (length out) (length cs * 48)) (record { outcome = too-few; shelf = s; answers = out })
+    cond (ltb (length out) (length cs * 64)) (record { outcome = too-few; shelf = s; answers = out })
     (record { outcome = ran (length cs); shelf = shelf-after cs s; answers = over out 0 (slots (shelf-answers cs s)) })
 
 -- The calls of a script, run; a malformed script leaves both buffers as they were.

@@ -23,5 +23,5 @@ pub record RunMeets (script s out : List ℕ) (cs : List Call) : Type 0 where
 abbrev pub RunDemand3 : Type 0
 RunDemand3 =
     (script s out : List ℕ) (cs : List Call) → Bytes script → calls script ≡ some (clear ∷ cs) → 6 ≤ length s
-    → suc (length cs) * 48 ≤ length out
+    → suc (length cs) * 64 ≤ length out
     → RunMeets script s out cs

@@ -29,7 +29,7 @@ pub fn perform(script: &[u8], call: Call, shelf: &mut [u8]) -> Answer
 // Makes the call at a place, lays its answer over out, and answers the place behind it.
 pub fn perform_at(script: &[u8], at: usize, shelf: &mut [u8], out: &mut [u8], slot: usize) -> usize
     requires { ⌜ at ≤ length (now script) ⌝ }
-    requires { ⌜ slot + 48 ≤ length (now out) ⌝ }
+    requires { ⌜ slot + 64 ≤ length (now out) ⌝ }
     ensures { λ r. ⌜ Performed (now (script .entry)) at (now (shelf .entry)) (now (shelf .exit)) (now (out .entry))
         slot (now (out .exit)) r ⌝ }
 {

@@ -15,12 +15,12 @@ use crate::listing::listing;
 use crate::perform::perform_at;
 
 // The bytes of an answer.
-const SLOT: usize = 48;
+const SLOT: usize = 64;
 
 // Makes all calls of the script.
 fn perform_all(script: &[u8], shelf: &mut [u8], out: &mut [u8])
     requires { ⌜ calls (now script) ≡ some (listed (now script)) ⌝ }
-    requires { ⌜ length (listed (now script)) * 48 ≤ length (now out) ⌝ }
+    requires { ⌜ length (listed (now script)) * 64 ≤ length (now out) ⌝ }
     ensures { λ _. ⌜ now (shelf .exit) ≡ shelf-after (listed (now (script .entry))) (now (shelf .entry)) ⌝ }
     ensures { λ _. ⌜ now (out .exit)
         ≡ over (now (out .entry)) 0 (slots (shelf-answers (listed (now (script .entry))) (now (shelf .entry)))) ⌝ }
@@ -33,7 +33,7 @@ fn perform_all(script: &[u8], shelf: &mut [u8], out: &mut [u8])
     }
 }
 
-// Makes all calls of the script, and lays an answer of 48 bytes for each over the start of out; or none, where that
+// Makes all calls of the script, and lays an answer of 64 bytes for each over the start of out; or none, where that
 // cannot be.
 pub fn run(script: &[u8], shelf: &mut [u8], out: &mut [u8]) -> Running
     ensures { λ r. ⌜ outcome-of r ≡ run (now (script .entry)) (now (shelf .entry)) (now (out .entry)) .outcome ⌝ }

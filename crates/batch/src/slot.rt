@@ -1,11 +1,14 @@
-// An answer as six numbers of eight bytes each (specs/Slots.antt).
+// An answer as eight numbers of eight bytes each (specs/Slots.antt).
 ghost use mathlib.Core.Path.{_≡_};
 ghost use mathlib.Core.List.{[], _∷_};
 ghost use Prim.Native.Nat.{_+_, _≤_};
 ghost use lib.ListN.{length};
 ghost use Rattle.words.specs.Laid.{over};
+ghost use Rattle.words.specs.LittleEndian.{as-words};
+ghost use Rattle.restrictive.specs.Answers.{violation-of};
+ghost use Rattle.store.specs.Answer.{breaks};
 ghost use Rattle.store.specs.Answers.{answer-of};
-ghost use Rattle.batch.specs.Slots.{numbers, words};
+ghost use Rattle.batch.specs.Slots.{numbers};
 use restrictive::Violation;
 use store::answer::Answer;
 use words::le;
@@ -19,48 +22,43 @@ const CLASH: u64 = 2;
 
 const BREAK: u64 = 3;
 
+// The first number, and one value.
+fn put_value(out: &mut [u8], at: usize, tag: u64, n: usize)
+    requires { ⌜ at + 64 ≤ length (now out) ⌝ }
+    ensures { λ _. ⌜ now (out .exit) ≡ over (now (out .entry)) at (as-words (tag ∷ n ∷ 0 ∷ 0 ∷ 0 ∷ 0 ∷ 0 ∷ 0 ∷ [])) ⌝ }
+{
+    let numbers = [tag, n as u64, 0, 0, 0, 0, 0, 0];
+    le::put_words(out, at, &numbers);
+}
+
 // The first number, and the values of a break.
-fn put(out: &mut [u8], at: usize, tag: u64, v: Violation)
-    requires { ⌜ at + 48 ≤ length (now out) ⌝ }
+fn put_violation(out: &mut [u8], at: usize, v: Violation)
+    requires { ⌜ at + 64 ≤ length (now out) ⌝ }
     ensures { λ _. ⌜ now (out .exit)
-        ≡ over (now (out .entry)) at (words (tag ∷ v .rule ∷ v .event ∷ v .s ∷ v .t ∷ v .u ∷ [])) ⌝ }
+        ≡ over (now (out .entry)) at (as-words (numbers (breaks (violation-of v)))) ⌝ }
 {
-    le::put64(out, at, tag);
-    le::put64(out, at + 8, v.rule as u64);
-    le::put64(out, at + 16, v.event as u64);
-    le::put64(out, at + 24, v.s as u64);
-    le::put64(out, at + 32, v.t as u64);
-    le::put64(out, at + 40, v.u as u64);
+    let numbers = [
+        BREAK,
+        v.rule as u64,
+        v.event as u64,
+        v.s as u64,
+        v.t as u64,
+        v.u as u64,
+        v.level as u64,
+        0,
+    ];
+    le::put_words(out, at, &numbers);
 }
 
-// One value, and zeros.
-fn put_one(out: &mut [u8], at: usize, tag: u64, n: usize)
-    requires { ⌜ at + 48 ≤ length (now out) ⌝ }
-    ensures { λ _. ⌜ now (out .exit) ≡ over (now (out .entry)) at (words (tag ∷ n ∷ 0 ∷ 0 ∷ 0 ∷ 0 ∷ [])) ⌝ }
-{
-    put(
-        out,
-        at,
-        tag,
-        Violation {
-            rule: n,
-            event: 0,
-            s: 0,
-            t: 0,
-            u: 0,
-        },
-    );
-}
-
-// An answer's six numbers.
+// An answer's eight numbers.
 pub fn put_answer(out: &mut [u8], at: usize, a: Answer)
-    requires { ⌜ at + 48 ≤ length (now out) ⌝ }
-    ensures { λ _. ⌜ now (out .exit) ≡ over (now (out .entry)) at (words (numbers (answer-of a))) ⌝ }
+    requires { ⌜ at + 64 ≤ length (now out) ⌝ }
+    ensures { λ _. ⌜ now (out .exit) ≡ over (now (out .entry)) at (as-words (numbers (answer-of a))) ⌝ }
 {
     match a {
-        Answer::Gives(n) => put_one(out, at, NUMBER, n),
-        Answer::Refused(k) => put_one(out, at, REFUSED, k),
-        Answer::Clash(e) => put_one(out, at, CLASH, e),
-        Answer::Breaks(v) => put(out, at, BREAK, v),
+        Answer::Gives(n) => put_value(out, at, NUMBER, n),
+        Answer::Refused(k) => put_value(out, at, REFUSED, k),
+        Answer::Clash(e) => put_value(out, at, CLASH, e),
+        Answer::Breaks(v) => put_violation(out, at, v),
     }
 }

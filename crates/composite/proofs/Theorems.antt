@@ -1,12 +1,12 @@
 -- The hookup theorem over bytes.
+use native.Mathlib.Omega.{arith}
 use Rattle.machine.proofs.Hookup.{hookup-restrictive}
-use Rattle.screening.proofs.Ranges.{ranges}
 use Rattle.restrictive.proofs.Theorems.{passes-exactly}
 use Rattle.composite.specs.Joined.{joined}
 use Rattle.composite.specs.Theorems.{JoinedPasses}
 use Rattle.composite.proofs.Joinable.{joins-exactly}
 use Rattle.composite.proofs.JoinedProper.{joined-accepted}
-use Rattle.composite.proofs.JoinedMachine.{joined-hookup}
+use Rattle.composite.proofs.JoinedMachine.{joined-observers, joined-hookup}
 
 pub joined-passes : JoinedPasses
 joined-passes a b h k u v none-there =
@@ -15,5 +15,10 @@ joined-passes a b h k u v none-there =
     let j = joins-exactly a b p q .0 none-there in
     let r = joined-accepted a b h k p q j in
     let (pairs, numbered, hookup, partition) = joined-hookup a b h k p q j r in
-    passes-exactly (joined a b) .1
-    (r, hookup-restrictive _ _ _ _ _ _ _ _ _ pairs hookup (partition 0 (ranges (joined a b) r .some-observer)) R S)
+    passes-exactly (joined a b) .1 (
+      r,
+      λ o l.
+          let same = joined-observers a b h k p q j in
+          hookup-restrictive _ _ _ _ _ _ _ _ _ pairs hookup (partition o l) (R o (omega arith))
+          (S o (omega (arith, j .joinable .as-many))),
+    )

@@ -1,10 +1,10 @@
 -- Records that tell the definitions of Join from their wrong readings: the numbering of states and classes, the order of the merged entries,
--- a shared event that moves both parts, and the order of the answers.
+-- a shared event that moves both parts, lists of observers, and the order of the answers.
 use Prim.Native.Nat.{ℕ, _+_, _*_}
 use mathlib.Core.Bool.{Bool, true, _&&_}
 use mathlib.Core.List.{List, [], _∷_, _++_}
 use lib.Dec.{T}
-use lib.ListN.{length, set, take}
+use lib.ListN.{length, set, take, replicate}
 use Rattle.words.specs.LittleEndian.{digits}
 use Rattle.words.specs.Laid.{over}
 use Rattle.part.specs.Samples.{P, Q, Z, resetting}
@@ -48,12 +48,33 @@ receiver = sample 0 (0 ∷ 0 ∷ []) 1 (entry 7 0) (3 ∷ 2 ∷ [])
 abbrev together : List ℕ
 together = sample 0 (0 ∷ 0 ∷ 0 ∷ 0 ∷ []) 1 (entry 7 2) (12 ∷ 8 ∷ 3 ∷ 2 ∷ [])
 
+-- A record of kind 2 without events, start 0: levels, number of states, and class columns, one behind the other.
+unfoldable listing : List ℕ → ℕ → List ℕ → List ℕ
+listing levels n columns =
+    digits 4 (4 + length levels + length columns) ++ 2 ∷ 0 ∷ length levels ∷ n ∷ 0 ∷ 0 ∷ [] ++ levels ++ columns
+
+-- Two parts with two observers. In each column the class of a pair goes by B's number of classes in that column: 1 in the first, 2 in the
+-- second. With the other's number it would be 0 0 2 2 and 0 1 0 1, with one number for both columns likewise.
+abbrev two-left : List ℕ
+two-left = listing (0x00 ∷ 0x40 ∷ []) 2 (0 ∷ 1 ∷ 0 ∷ 0 ∷ [])
+
+abbrev two-right : List ℕ
+two-right = listing (0x00 ∷ 0x40 ∷ []) 2 (0 ∷ 0 ∷ 0 ∷ 1 ∷ [])
+
+abbrev two-joined : List ℕ
+two-joined = listing (0x00 ∷ 0x40 ∷ []) 4 (0 ∷ 0 ∷ 1 ∷ 1 ∷ 0 ∷ 1 ∷ 0 ∷ 1 ∷ [])
+
+-- One state, for observers of these levels.
+abbrev still : List ℕ → List ℕ
+still levels = listing levels 1 (replicate (length levels) 0)
+
 bytes-so : Bool
-unfolding hooked sample
+unfolding hooked sample listing
 bytes-so =
     same-bytes (hooked toggles wanders) side-by-side
     && same-bytes (hooked sender receiver) together
     && same-bytes (hooked Z sender) sender
+    && same-bytes (hooked two-left two-right) two-joined
 
 bytes-as-written : T bytes-so
 unfolding bytes-so
@@ -70,7 +91,7 @@ abbrev line : List ℕ → List ℕ → ℕ → Joining → Line
 line a b room answer = record { a = a; b = b; room = room; answer = answer }
 
 all-answered : List Line → Bool
-unfolding answered sample
+unfolding answered sample listing
 all-answered [] = true
 all-answered (l ∷ ls) = same-answer (answered (l .a) (l .b) (l .room)) (l .answer) && all-answered ls
 
@@ -83,11 +104,19 @@ table =
     ∷ line P (set P 11 1) 0 (unfit second-record (broken-at 2 1 0 1 0))
     ∷ line (set P 11 1) (take 5 P) 0 (unfit first-record (broken-at 2 1 0 1 0))
     ∷ line (take 5 P) (set P 11 1) 0 (unfit first-record (refused 1))
-    ∷ line P (set Q 4 2) 0 (unfit second-record (refused 3))
+    ∷ line P (set Q 4 3) 0 (unfit second-record (refused 3))
     ∷ line P (set Q 14 0x01) 0 (unfit second-record (refused 16))
     -- 9 before 10: Q for another observer, with an input in the place of P's event 1
     ∷ line P (set Q 6 0x40) 52 (stopped (refusal 9))
     ∷ line P (set (set Q 6 0x40) 11 1) 52 (stopped (refusal 9))
+    -- 9 for lists: one longer than the other, in both orders; kind 1 is a list of one; a level that differs. Equal lists join
+    ∷ line (still (0x00 ∷ 0x40 ∷ [])) (still (0x00 ∷ 0x40 ∷ 0x80 ∷ [])) 99 (stopped (refusal 9))
+    ∷ line (still (0x00 ∷ 0x40 ∷ 0x80 ∷ [])) (still (0x00 ∷ 0x40 ∷ [])) 99 (stopped (refusal 9))
+    ∷ line Z (still (0x00 ∷ 0x40 ∷ [])) 99 (stopped (refusal 9))
+    ∷ line (still (0x00 ∷ 0x40 ∷ [])) Z 99 (stopped (refusal 9))
+    ∷ line (still (0x00 ∷ 0x40 ∷ [])) (still (0x00 ∷ 0x80 ∷ [])) 99 (stopped (refusal 9))
+    ∷ line (still (0x00 ∷ 0x40 ∷ [])) (still (0x00 ∷ 0x40 ∷ [])) 14 (length-is 14)
+    ∷ line two-left two-right 20 (length-is 20)
     -- 10: input with input; output with input at another level
     ∷ line P (set Q 11 1) 52 (stopped (clash 1))
     ∷ line P (set Q 14 0x40) 52 (stopped (clash 2))

@@ -5,6 +5,7 @@ use mathlib.Core.List.{List, [], _∷_}
 use lib.Dec.{T}
 use lib.ListN.{length, set}
 use Rattle.level.specs.Level.{low}
+use Rattle.part.specs.Format.{max-record}
 use Rattle.part.specs.Samples.{P, Q, Z, T as sample-T}
 use Rattle.restrictive.specs.Verdict.{Verdict, pass}
 use Rattle.restrictive.specs.Judged.{judged, same, broken-at}
@@ -20,7 +21,7 @@ pub data Line : Type 0 where
 
 -- A buffer that has room for every record.
 abbrev room : ℕ
-room = 16586
+room = max-record
 
 unfoldable holds : Line → Bool
 unfolding judged hooked answered

@@ -9,11 +9,10 @@ use lib.Dec.{ltb}
 use lib.ListN.{length, getD}
 use Rattle.bounded.specs.Search.{each}
 use Rattle.words.specs.Laid.{over}
-use Rattle.words.specs.LittleEndian.{digits}
+use Rattle.words.specs.LittleEndian.{digits, as-words}
 use Rattle.words.proofs.LittleEndian.{length-digits, length-each}
-use Rattle.part.specs.Record.{observer}
 use Rattle.restrictive.specs.Verdict.{Violation, Verdict, pass, refused, breaks, verdict, taken}
-use Rattle.explain.specs.Explanation.{numbers, as-bytes, explanation, no-room, explained, buffer-after}
+use Rattle.explain.specs.Explanation.{numbers, explanation, no-room, explained, buffer-after}
 
 abbrev bytes : List ℕ → List ℕ
 bytes xs = each 8 (λ i. digits 8 (getD xs i 0))
@@ -29,23 +28,23 @@ told b out xs e f a w =
     (a ∙ rw (size, e) refl, w ∙ rw (size, f) refl)
 
 -- The numbers of a break and of a pass; a refusal has none.
-of-verdict : (b : List ℕ) {v : Verdict} → verdict b ≡ v → explanation b ≡ as-bytes (numbers v (taken b) (observer b 0))
+of-verdict : (b : List ℕ) {v : Verdict} → verdict b ≡ v → explanation b ≡ as-words (numbers v (taken b))
 unfolding explanation
 of-verdict b e = rw e
 
-pub of-break : (b : List ℕ) {v : Violation} {k l : ℕ} → verdict b ≡ breaks v → k ≡ taken b → l ≡ observer b 0
+pub of-break : (b : List ℕ) {v : Violation} {k l : ℕ} → verdict b ≡ breaks v → k ≡ taken b → l ≡ v .level
     → explanation b ≡ bytes (v .rule ∷ v .event ∷ v .s ∷ v .t ∷ v .u ∷ k ∷ l ∷ 0 ∷ [])
-unfolding numbers as-bytes each
+unfolding numbers as-words each
 of-break b e p q = of-verdict b e ∙ rw (← p, ← q) refl
 
 pub of-pass : (b : List ℕ) {k : ℕ} → verdict b ≡ pass → k ≡ taken b
     → explanation b ≡ bytes (0 ∷ 0 ∷ 0 ∷ 0 ∷ 0 ∷ k ∷ 0 ∷ 1 ∷ [])
-unfolding numbers as-bytes each
+unfolding numbers as-words each
 of-pass b e p = of-verdict b e ∙ rw (← p) refl
 
 pub told-refused : (b out : List ℕ) {k : ℕ} {answer : Verdict} → verdict b ≡ refused k → answer ≡ refused k
     → (answer ≡ explained b (length out)) × (out ≡ buffer-after b out)
-unfolding explained buffer-after no-room numbers as-bytes each over
+unfolding explained buffer-after no-room numbers as-words each over
 told-refused b out e a =
     let none = of-verdict b e in
     (rw (none, e, le-ltb (length out) 0 (omega arith)) a, rw (none, le-ltb (length out) 0 (omega arith)) refl)

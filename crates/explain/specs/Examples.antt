@@ -1,19 +1,19 @@
--- What the call answers and writes, on records of document 01.
+-- What the call answers and writes, on records of document 01 and on one with two observers.
 use Prim.Native.Nat.{ℕ}
 use mathlib.Core.Path.{_≡_, refl}
 use mathlib.Core.List.{List, [], _∷_, _++_}
 use lib.ListN.{set, replicate}
 use Rattle.bounded.specs.Search.{each}
 use Rattle.words.specs.Laid.{over}
-use Rattle.words.specs.LittleEndian.{digits}
-use Rattle.part.specs.Samples.{P, Z, T}
+use Rattle.words.specs.LittleEndian.{digits, as-words}
+use Rattle.part.specs.Samples.{P, Z, T, two-observers}
 use Rattle.restrictive.specs.Verdict.{Verdict, refused}
 use Rattle.restrictive.specs.Judged.{judged, counted, broken-at}
-use Rattle.explain.specs.Explanation.{numbers, as-bytes, explanation, no-room, explained, buffer-after}
+use Rattle.explain.specs.Explanation.{numbers, explanation, no-room, explained, buffer-after}
 
 -- The explanation, the answer and the buffer afterwards, as they compute.
 written : List ℕ → List ℕ
-unfolding judged counted explanation numbers as-bytes each digits
+unfolding judged counted explanation numbers as-words each digits
 written b = explanation b
 
 answered : List ℕ → ℕ → Verdict
@@ -29,12 +29,17 @@ left b out = buffer-after b out
 abbrev leaking : ℕ → List ℕ
 leaking observer = set (T 1 0xC0 4 0 0) 6 observer
 
-a-break : written (leaking 0x40) ≡ as-bytes (4 ∷ 1 ∷ 0 ∷ 2 ∷ 1 ∷ 4 ∷ 0x40 ∷ 0 ∷ [])
+a-break : written (leaking 0x40) ≡ as-words (4 ∷ 1 ∷ 0 ∷ 2 ∷ 1 ∷ 4 ∷ 0x40 ∷ 0 ∷ [])
 unfolding written
 a-break = refl
 
+-- Of several observers the level is that of the one concerned: here input 1 is high to both, and only the second has two classes.
+second-concerned : written (set (set (set two-observers 19 0x80) 13 0) 15 1) ≡ as-words (2 ∷ 1 ∷ 0 ∷ 1 ∷ 0 ∷ 0 ∷ 0x40 ∷ 0 ∷ [])
+unfolding written
+second-concerned = refl
+
 -- P passes, and its observer's level is not told.
-a-pass : written P ≡ as-bytes (0 ∷ 0 ∷ 0 ∷ 0 ∷ 0 ∷ 2 ∷ 0 ∷ 1 ∷ [])
+a-pass : written P ≡ as-words (0 ∷ 0 ∷ 0 ∷ 0 ∷ 0 ∷ 2 ∷ 0 ∷ 1 ∷ [])
 unfolding written
 a-pass = refl
 
@@ -57,7 +62,7 @@ unfolding answered
 refusal-first = refl
 
 -- Later bytes stay, and all do where the call is refused: a short buffer, or bytes that are no record.
-after : left Z (replicate 65 9) ≡ as-bytes (0 ∷ 0 ∷ 0 ∷ 0 ∷ 0 ∷ 1 ∷ 0 ∷ 1 ∷ []) ++ (9 ∷ [])
+after : left Z (replicate 65 9) ≡ as-words (0 ∷ 0 ∷ 0 ∷ 0 ∷ 0 ∷ 1 ∷ 0 ∷ 1 ∷ []) ++ (9 ∷ [])
 unfolding left
 after = refl
 

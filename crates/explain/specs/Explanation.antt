@@ -1,29 +1,23 @@
--- The verdict on a part in numbers, and what the call that writes them answers (request f).
+-- The verdict on a part in numbers, and what the call that writes them answers (requests f and k).
 use Prim.Native.Nat.{ℕ}
 use mathlib.Core.Bool.{Bool, cond}
 use mathlib.Core.List.{List, [], _∷_}
 use lib.Dec.{ltb}
-use lib.ListN.{length, getD}
-use Rattle.bounded.specs.Search.{each}
+use lib.ListN.{length}
 use Rattle.words.specs.Laid.{over}
-use Rattle.words.specs.LittleEndian.{digits}
-use Rattle.part.specs.Record.{observer}
+use Rattle.words.specs.LittleEndian.{as-words}
 use Rattle.restrictive.specs.Verdict.{Verdict, pass, refused, breaks, verdict, taken}
 
--- The eight numbers of a verdict. A break: rule, event, s, t, u; how many states were taken up; the observer's level; 0. A pass: five
--- zeros; how many were taken up; 0; 1. A refusal has none.
-unfoldable pub numbers : Verdict → ℕ → ℕ → List ℕ
-numbers pass taken level = 0 ∷ 0 ∷ 0 ∷ 0 ∷ 0 ∷ taken ∷ 0 ∷ 1 ∷ []
-numbers (refused k) taken level = []
-numbers (breaks v) taken level = v .rule ∷ v .event ∷ v .s ∷ v .t ∷ v .u ∷ taken ∷ level ∷ 0 ∷ []
+-- The eight numbers of a verdict. A break: rule, event, s, t, u; how many states were taken up; the level of the observer concerned; 0. A
+-- pass: five zeros; how many were taken up; 0; 1. A refusal has none.
+unfoldable pub numbers : Verdict → ℕ → List ℕ
+numbers pass taken = 0 ∷ 0 ∷ 0 ∷ 0 ∷ 0 ∷ taken ∷ 0 ∷ 1 ∷ []
+numbers (refused k) taken = []
+numbers (breaks v) taken = v .rule ∷ v .event ∷ v .s ∷ v .t ∷ v .u ∷ taken ∷ v .level ∷ 0 ∷ []
 
--- Eight bytes each.
-unfoldable pub as-bytes : List ℕ → List ℕ
-as-bytes xs = each (length xs) (λ i. digits 8 (getD xs i 0))
-
--- What the call writes.
+-- What the call writes: eight bytes for each.
 unfoldable pub explanation : List ℕ → List ℕ
-explanation b = as-bytes (numbers (verdict b) (taken b) (observer b 0))
+explanation b = as-words (numbers (verdict b) (taken b))
 
 -- It does not fit into a buffer of so many bytes.
 unfoldable pub no-room : List ℕ → ℕ → Bool

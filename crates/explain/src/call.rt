@@ -1,4 +1,4 @@
-// The call: the verdict on a record in numbers (request f).
+// The call: the verdict on a record in numbers (requests f and k).
 ghost use mathlib.Core.Path.{_≡_};
 ghost use mathlib.Core.Bool.{cond};
 ghost use lib.Dec.{ltb};
@@ -11,11 +11,12 @@ ghost use Rattle.restrictive.specs.Answers.{verdict-of};
 ghost use Rattle.explain.specs.Explanation.{explained, buffer-after};
 ghost use Rattle.explain.specs.Answers.{explaining-of};
 use crate::answer::Explaining;
-use crate::numbers::BYTES;
-use crate::numbers::put_numbers;
-use part::Part;
 use restrictive::Verdict;
 use restrictive::call::check;
+use words::le;
+
+// How many bytes an explanation has.
+const BYTES: usize = 64;
 
 // A verdict, with its numbers at the start of out; or that they have no room there.
 fn tell(out: &mut [u8], v: Verdict, numbers: &[u64; 8]) -> Explaining
@@ -25,7 +26,7 @@ fn tell(out: &mut [u8], v: Verdict, numbers: &[u64; 8]) -> Explaining
     if out.len() < BYTES {
         return Explaining::NoRoom;
     }
-    put_numbers(out, numbers);
+    le::put_words(out, 0, numbers);
     Explaining::Told(v)
 }
 
@@ -40,7 +41,7 @@ pub fn explain(bytes: &[u8], out: &mut [u8]) -> Explaining
     match verdict {
         Verdict::Refused(_) => Explaining::Told(verdict),
         Verdict::Break(w) => {
-            let level = Part::observer(bytes, 0) as u64;
+            let level = w.level as u64;
             let numbers = [
                 w.rule as u64,
                 w.event as u64,

@@ -1,4 +1,3 @@
 // The verdict on a part in numbers, for a host program.
 pub mod answer;
 pub mod call;
-mod numbers;

@@ -14,7 +14,7 @@ fn put_part(out: &mut [u8], states: u8, events: u8)
 {
     let body = out.len() - 6;
     le::put32(out, 0, body as u64);
-    le::put16(out, 4, Part::KIND as u64);
+    le::put16(out, 4, Part::SINGLE as u64);
     out[7] = states;
     out[9] = events;
 }

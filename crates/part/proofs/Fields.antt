@@ -1,6 +1,7 @@
 -- Where the fields of a framed record stand: inside it, and not far.
 use Prim.Native.Nat.{ℕ, _+_, _*_, _≤_, _<_, max}
 use mathlib.Core.Path.{_≡_, refl, sym, subst}
+use mathlib.Core.Logic.{_⊎_, inl, inr}
 use mathlib.Core.Bool.{Bool, true, false, cond}
 use native.Mathlib.Numerals.{add-one}
 use native.Mathlib.Omega.{arith}
@@ -13,7 +14,7 @@ use lib.Seq.{getD-take, getD-drop}
 use Rattle.words.specs.LittleEndian.{byte}
 use Rattle.part.specs.declared.format.Form.{Form}
 use Rattle.part.specs.declared.format.Counts.{Counts}
-use Rattle.part.specs.Format.{part-kind, several-kind, lists-at, one-observer, several-observers, form, columns-at, column-at}
+use Rattle.part.specs.Format.{single-kind, several-kind, least-listed, max-observers, lists-at, one-observer, several-observers, form, columns-at, column-at}
 use Rattle.part.specs.Format.{record-size, max-states, max-record}
 use Rattle.part.specs.Frame.{Few, Narrow, Framed}
 use Rattle.part.specs.Record.{kind, lead, states, events, counts, form-of, observers, column, class, classes-below}
@@ -39,20 +40,39 @@ pub own-columns : (b : List ℕ) → observers b ≡ form-of b .columns
 own-columns b = formed (kind b) (lead b) .own
 
 -- Kind 1 has one observer, and lists none.
-pub form-one : (kind lead : ℕ) → kind ≡ part-kind → form kind lead ≡ one-observer
+pub form-one : (kind lead : ℕ) → kind ≡ single-kind → form kind lead ≡ one-observer
 unfolding form
 form-one kind lead e = rw e refl
 
--- What is asked of the form of a record that is accepted.
+-- Kind 2 has as many as its first byte says.
+pub form-several : (kind lead : ℕ) → kind ≡ several-kind → form kind lead ≡ several-observers lead
+unfolding form
+form-several kind lead e = rw e refl
+
+-- A kind and a first byte that a record may have: kind 1, or kind 2 with a count in its range.
+pub record Several (kind count : ℕ) : Type 0 where
+  pub kind-is : kind ≡ several-kind
+  pub least : least-listed ≤ count
+  pub most : count ≤ max-observers
+
+abbrev pub Described : ℕ → ℕ → Type 0
+Described kind lead = (kind ≡ single-kind) ⊎ Several kind lead
+
+-- What the form of such a record meets.
 pub record Allowed (f : Form) : Type 0 where
   pub some-observer : 1 ≤ f .observers
   pub narrow : Narrow f
 
-pub form-allowed : (kind lead : ℕ) → kind ≡ part-kind → Allowed (form kind lead)
-form-allowed kind lead e =
+pub form-allowed : (kind lead : ℕ) → Described kind lead → Allowed (form kind lead)
+form-allowed kind lead (inl e) =
     subst Allowed (sym (form-one kind lead e)) (record {
       some-observer = omega arith;
       narrow = record { lists = omega arith; columns = omega arith };
+    })
+form-allowed kind lead (inr w) =
+    subst Allowed (sym (form-several kind lead (w .kind-is))) (record {
+      some-observer = omega (arith, w .least);
+      narrow = record { lists = w .most; columns = w .most };
     })
 
 -- A first byte lists at most 255.

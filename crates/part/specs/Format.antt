@@ -17,11 +17,18 @@ abbrev pub max-event-kind : ℕ
 max-event-kind = 2
 
 -- The kinds of record: a part with one observer, and one with several.
-abbrev pub part-kind : ℕ
-part-kind = 1
+abbrev pub single-kind : ℕ
+single-kind = 1
 
 abbrev pub several-kind : ℕ
 several-kind = 2
+
+-- Kind 2 has at least so many observers, and no part has more than so many.
+abbrev pub least-listed : ℕ
+least-listed = 2
+
+abbrev pub max-observers : ℕ
+max-observers = 4
 
 -- Length and kind stand before the body.
 abbrev pub header : ℕ
@@ -69,7 +76,7 @@ record-size c = header + body-size c
 
 -- The widest form, and with it the longest record.
 abbrev pub widest : Form
-widest = one-observer
+widest = several-observers max-observers
 
 abbrev pub max-record : ℕ
 max-record = record-size (record { form = widest; states = max-states; events = max-events })

@@ -2,7 +2,7 @@
 use Prim.Native.Nat.{ℕ}
 use mathlib.Core.List.{List, [], _∷_, _++_}
 use Rattle.words.specs.LittleEndian.{digits}
-use Rattle.part.specs.Format.{part-kind}
+use Rattle.part.specs.Format.{single-kind}
 use Rattle.part.specs.Layout.{Table, Fields, layout}
 
 -- P, 52 bytes: two states, input 1 is high and toggles, output 2 is low and stays.
@@ -52,7 +52,7 @@ two-observers =
 -- A record of kind 1: a table, and one observer with its level and the class of each state.
 abbrev pub observed : Table → ℕ → (ℕ → ℕ) → Fields
 observed table level class =
-    record { kind = part-kind; lead = level; table = table; listed = λ o. 0; class = λ o. class }
+    record { kind = single-kind; lead = level; table = table; listed = λ o. 0; class = λ o. class }
 
 -- n states, all of one class, and m inputs 0, 1, .. of level 0 that lead every state to state 0.
 abbrev pub resetting : ℕ → ℕ → List ℕ

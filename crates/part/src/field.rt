@@ -32,6 +32,8 @@ impl Part {
 
     pub const EVENTS: usize = 32;
 
+    pub const OBSERVERS: usize = 4;
+
     // The bytes of length and kind, of the four numbers of the body, of an entry, of a row.
     pub const HEADER: usize = 6;
 
@@ -47,14 +49,18 @@ impl Part {
     const ROWS: usize = Part::EVENTS * Part::STATES;
 
     pub const RECORD: usize = Part::LISTS
-        + Part::STATES
+        + Part::OBSERVERS
+        + Part::OBSERVERS * Part::STATES
         + Part::ENTRY * Part::EVENTS
         + Part::ROW * Part::ROWS;
 
     // The kinds of record: with one observer, and with several.
-    pub const KIND: usize = 1;
+    pub const SINGLE: usize = 1;
 
     pub const SEVERAL: usize = 2;
+
+    // A record with several observers lists at least so many.
+    pub const LEAST_LISTED: usize = 2;
 
     // A shared event becomes internal, the last of the three kinds of event.
     pub const INTERNAL: usize = 2;

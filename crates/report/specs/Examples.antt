@@ -21,13 +21,13 @@ unfolding line decimal digits
 mislabelled-line = refl
 
 -- "rule 2 event 1 from 0 to 1 other 0"
-pub rule-line : line (breaks (record { rule = 2; event = 1; s = 0; t = 1; u = 0 }))
+pub rule-line : line (breaks (record { level = 0x40; rule = 2; event = 1; s = 0; t = 1; u = 0 }))
     ≡ rule-text ++ (50 ∷ []) ++ event-text ++ (49 ∷ []) ++ from-text ++ (48 ∷ []) ++ to-text ++ (49 ∷ []) ++ other-text ++ (48 ∷ []) ++ line-end
 unfolding line decimal digits
 rule-line = refl
 
 -- "rule 5 event 65535 from 7 to 10 other 0", byte by byte
-pub long-line : line (breaks (record { rule = 5; event = 65535; s = 7; t = 10; u = 0 }))
+pub long-line : line (breaks (record { level = 0; rule = 5; event = 65535; s = 7; t = 10; u = 0 }))
     ≡ (114 ∷ 117 ∷ 108 ∷ 101 ∷ 32 ∷ 53 ∷ [])
     ++ (32 ∷ 101 ∷ 118 ∷ 101 ∷ 110 ∷ 116 ∷ 32 ∷ 54 ∷ 53 ∷ 53 ∷ 51 ∷ 53 ∷ [])
     ++ (32 ∷ 102 ∷ 114 ∷ 111 ∷ 109 ∷ 32 ∷ 55 ∷ [])

@@ -30,13 +30,13 @@ use Rattle.part.specs.declared.format.Counts.{Counts}
 use Rattle.part.specs.Frame.{Few}
 use Rattle.part.proofs.Fields.{formed, classes-before}
 use Rattle.screening.specs.Rejections.{too-short, wrong-length, wrong-kind, out-of-range, wrong-size, unnumbered, misnumbered-at, misnumbered}
-use Rattle.screening.specs.Rejections.{falls-at, unknown-at, misordered-at, misordered, mislabelled-at, mislabelled-observer}
+use Rattle.screening.specs.Rejections.{falls, miscounted, observer-falls, mislisted, falls-at, unknown-at, misordered-at, misordered, mislabelled-at, mislabelled-observer}
 use Rattle.screening.specs.Rejections.{mislabelled-part}
 use Rattle.screening.specs.Rejections.{strays-at, row-strays, stray-bit, Accepted}
 use Rattle.part.specs.Events.{kind-of, at-place, place, event-of, Leads}
 use Rattle.screening.specs.Machine.{machine, observation}
 use Rattle.screening.proofs.Accepted.{in-frame, not-too-short, not-wrong-length, not-wrong-kind, not-out-of-range}
-use Rattle.screening.proofs.Accepted.{not-wrong-size, not-misnumbered, not-misordered, not-mislabelled, not-stray}
+use Rattle.screening.proofs.Accepted.{not-wrong-size, not-mislisted, not-misnumbered, not-misordered, not-mislabelled, not-stray}
 use Rattle.screening.proofs.Ranges.{frame, ranges}
 use Rattle.screening.proofs.Places.{places}
 use Rattle.part.proofs.Places.{event-none, event-at}
@@ -194,7 +194,12 @@ module _ (b : List ℕ) (a : Accepted (as-outputs b)) where
   at-each : {n m : ℕ} (f g : ℕ → Bool) → m ≡ n → ((i : ℕ) → i < n → f i ≡ g i) → any n f ≡ any m g
   at-each {n} f g e same = any-same n f g same ∙ ap (λ (k : ℕ). any k g) (sym e)
 
-  same-observers : observers c ≡ observers b
+  falls-alike : {n : ℕ} {f g : ℕ → ℕ} → ((i : ℕ) → i < n → g i ≡ f i) → (i : ℕ) → i < n → falls f i ≡ falls g i
+  unfolding falls
+  falls-alike same zero h = refl
+  falls-alike same (suc i) h = rw (same (suc i) h, same i (omega arith)) refl
+
+  pub same-observers : observers c ≡ observers b
   same-observers = let f = same-form in cc
 
   short : too-short b ≡ too-short c
@@ -217,15 +222,19 @@ module _ (b : List ℕ) (a : Accepted (as-outputs b)) where
   unfolding wrong-size
   in-size = rw same-length (ap (λ (k : Counts). not (eqb (body-length b) (body-size k))) (sym same-counts))
 
+  in-list : mislisted b ≡ mislisted c
+  unfolding mislisted miscounted observer-falls
+  in-list =
+      let falling = at-each (observer-falls b) (observer-falls c) same-observers (falls-alike same-observer) in
+      rw (same-kind, same-lead) (ap (λ (p : Bool). miscounted b || p) falling)
+
   numbered : misnumbered b ≡ misnumbered c
   unfolding misnumbered misnumbered-at
   numbered = at-each _ _ same-observers (λ o h. ap unnumbered (sym (same-column o h)))
 
   in-place : (i : ℕ) → i < events b → misordered-at b i ≡ misordered-at c i
   unfolding misordered-at falls-at unknown-at
-  in-place zero h = rw (turned-kind 0 h) (sym (turned-known (event-kind b 0)))
-  in-place (suc i) h =
-      rw (same-identifier (suc i) h, same-identifier i (omega arith), turned-kind (suc i) h, turned-known) refl
+  in-place i h = rw (falls-alike same-identifier i h, turned-kind i h, turned-known) refl
 
   ordered : misordered b ≡ misordered c
   unfolding misordered
@@ -255,11 +264,13 @@ module _ (b : List ℕ) (a : Accepted (as-outputs b)) where
         of-kind ∙ not-wrong-kind c f,
         in-range ∙ not-out-of-range c f,
         in-size ∙ not-wrong-size c f,
+        in-list ∙ not-mislisted c f,
         numbered ∙ not-misnumbered c a,
         ordered ∙ not-misordered c a,
         labelled ∙ not-mislabelled c a,
         within ∙ not-stray c a,
       )
+      depth 8
 
   -- ---- the machines
 

@@ -16,8 +16,8 @@ use Rattle.part.proofs.Rising.{Rises}
 use Rattle.restrictive.specs.Tests.{broken}
 use Rattle.relations.specs.Relations.{rule-at}
 use Rattle.restrictive.specs.Verdict.{Violation, violation-at, state-violation, event-violation, rule-violation}
-use Rattle.restrictive.specs.Verdict.{first-violation}
-use Rattle.restrictive.specs.Theorems.{Before, smaller, equal, in-order}
+use Rattle.restrictive.specs.Verdict.{violation-for}
+use Rattle.restrictive.specs.Theorems.{Before, smaller, equal}
 
 -- ---- the order of lists of numbers
 
@@ -133,17 +133,24 @@ module _ {A : Type 0} (n : ℕ) (key : ℕ → ℕ) (up : Rises key n) (head : A
 
 -- ---- the first violation
 
--- v is the violation of a rule by the event at a place at states where the test says that the rule is broken.
+-- v is the violation of a rule for an observer by the event at a place at states where the test says that the rule is broken.
 abbrev pub IsViolation : List ℕ → Observer → Violation → Type 0
 IsViolation b o =
     let n = states b in
     Level 5 (λ k. Level (events b) (λ i. Level n (λ s. Level n (λ t. Level n (λ u v.
-    T (broken b o (rule-at k) i s t u) × (record { rule = suc k; event = identifier b i; s = s; t = t; u = u } ≡ v))))))
+    T (broken b o (rule-at k) i s t u)
+    × (record { level = o .level; rule = suc k; event = identifier b i; s = s; t = t; u = u } ≡ v))))))
 
--- The search for it finds the first in the order in which violations are named.
+pub level-of : (b : List ℕ) (o : Observer) (v : Violation) → IsViolation b o v → v .level ≡ o .level
+level-of b o v (k, (i, (s, (t, (u, (c, q)))))) = ap (λ (w : Violation). w .level) (sym q)
+
+-- The search for it finds the first in the order in which violations are named, from the rule on.
+abbrev pub from-rule : Violation → List ℕ
+from-rule v = v .rule ∷ v .event ∷ v .s ∷ v .t ∷ v .u ∷ []
+
 pub finds-violation : (b : List ℕ) (o : Observer) → Rises (identifier b) (events b)
-    → Finds in-order (IsViolation b o) (first-violation b o)
-unfolding first-violation rule-violation event-violation state-violation violation-at when
+    → Finds from-rule (IsViolation b o) (violation-for b o)
+unfolding violation-for rule-violation event-violation state-violation violation-at when
 finds-violation b o up =
     let n = states b in
     let same : Rises (λ s. s) n = λ i j l h. l in

@@ -9,3 +9,4 @@ pub mod First
 pub mod Earlier
 pub mod Theorems
 pub mod Verdicts
+pub mod Observers

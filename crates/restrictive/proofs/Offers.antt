@@ -27,11 +27,11 @@ use Rattle.words.proofs.Sets.{bit-intersection, bit-zero, all-below}
 
 -- ---- one violation
 
-abbrev pub the-violation : List ℕ → ℕ → ℕ → ℕ → ℕ → ℕ → Violation
-the-violation b k i s t u = record { rule = suc k; event = identifier b i; s = s; t = t; u = u }
+abbrev pub the-violation : List ℕ → Observer → ℕ → ℕ → ℕ → ℕ → ℕ → Violation
+the-violation b o k i s t u = record { level = o .level; rule = suc k; event = identifier b i; s = s; t = t; u = u }
 
 module _ (b : List ℕ) (o : Observer) (k i s t u : ℕ) where
-  pub violated : broken b o (rule-at k) i s t u ≡ true → violation-at b o k i s t u ≡ some (the-violation b k i s t u)
+  pub violated : broken b o (rule-at k) i s t u ≡ true → violation-at b o k i s t u ≡ some (the-violation b o k i s t u)
   unfolding violation-at when
   violated e = rw e
 
@@ -128,7 +128,7 @@ module _ (b : List ℕ) (o : Observer) (k i s t : ℕ) where
 
   -- broken whatever u is: named with u = 0
   pub any-other : 1 ≤ states b → broken b o (rule-at k) i s t 0 ≡ true
-      → first (states b) (violation-at b o k i s t) ≡ some (the-violation b k i s t 0)
+      → first (states b) (violation-at b o k i s t) ≡ some (the-violation b o k i s t 0)
   unfolding first
   any-other h e = first-hit _ _ 0 _ h refl (violated b o k i s t 0 e)
 
@@ -183,7 +183,7 @@ module _ (b column : List ℕ) (c : Case) (permitted offers : List ℕ) (w : Jud
   -- rule 2: it leads there, and t has another class
   pub leaving : k ≡ 1 → 1 ≤ states b → (s t : ℕ) → s < states b → t < states b → leads b i s t ≡ true
       → bit (getD permitted s 0) t ≡ false
-      → first (states b) (violation-at b o k i s t) ≡ some (the-violation b k i s t 0)
+      → first (states b) (violation-at b o k i s t) ≡ some (the-violation b o k i s t 0)
   leaving e n s t h l p q =
       any-other b o k i s t n (leaves-class b o k i s t 0 e h (w .speaks, p) (sym (w .permitting s h t l) ∙ q))
 
@@ -225,7 +225,7 @@ module _ (b : List ℕ) (o : Observer) (i s : ℕ) (speaks : concerns (rule-at 0
   unfolding broken asks answers rule-at
   broken-stepless t u = rw speaks
 
-  pub stepless : 1 ≤ states b → row b i s ≡ 0 → state-violation b o 0 i s ≡ some (the-violation b 0 i s 0 0)
+  pub stepless : 1 ≤ states b → row b i s ≡ 0 → state-violation b o 0 i s ≡ some (the-violation b o 0 i s 0 0)
   unfolding state-violation first leads
   stepless n e =
       let nowhere : any (states b) (leads b i s) ≡ false = is-false _ (λ t.

@@ -19,7 +19,7 @@ use Rattle.part.specs.Record.{states, events, Observer}
 use Rattle.relations.specs.Relations.{role-at, is-role, concerns, leads, step-by, silent-step, reach-for, same-class, rule-at}
 use Rattle.relations.proofs.SilentReach.{reach-self, reach-step}
 use Rattle.restrictive.specs.Tests.{around}
-use Rattle.restrictive.specs.Verdict.{event-violation, rule-violation, first-violation}
+use Rattle.restrictive.specs.Verdict.{event-violation, rule-violation, violation-for}
 use Rattle.relations.specs.Sets.{Concerned, AllDistinct, ClasswiseEqual}
 use Rattle.restrictive.specs.Sets.{led-to, reached, offer, Asked, Offers}
 use Rattle.restrictive.proofs.Offers.{broken-asked, not-led, none-at, none-by}
@@ -102,14 +102,14 @@ unspoken b o k word l of e =
     let there : bit word i ≡ true = of i ∙ and-now _ _ (lt-ltb _ _ h) ∙ speaks in
     absurd (true-not-false there (ap (λ (x : ℕ). bit x i) e ∙ bit-zero i)))
 
-pub no-events : (b : List ℕ) (o : Observer) → events b ≡ 0 → first-violation b o ≡ none
-unfolding first-violation
+pub no-events : (b : List ℕ) (o : Observer) → events b ≡ 0 → violation-for b o ≡ none
+unfolding violation-for
 no-events b o e = first-nothing _ 5 (λ k l. rule-none b o k l (λ i h. absurd (omega arith)))
 
 -- Where no two states share a class, rules 1 and 2 decide.
 pub distinct-rules : (b : List ℕ) (o : Observer) → first 2 (rule-violation b o) ≡ none
-    → AllDistinct (states b) (o .class) → first-violation b o ≡ none
-unfolding first-violation
+    → AllDistinct (states b) (o .class) → violation-for b o ≡ none
+unfolding violation-for
 distinct-rules b o two distinct =
     first-nothing _ 5 (λ k l.
     elim (decLt k 2) [

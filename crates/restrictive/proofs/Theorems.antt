@@ -11,14 +11,14 @@ use Rattle.bounded.proofs.Paths.{length-visits}
 use Rattle.machine.specs.Rules.{Rule, rule-1, rule-2, rule-3, rule-4, rule-5, Restrictive}
 use Rattle.machine.proofs.Noninterference.{restrictive-hides}
 use Rattle.machine.proofs.Earlier.{earlier-related}
-use Rattle.part.specs.Record.{observer, states, observer-of}
+use Rattle.part.specs.Record.{observers, observer, states, observer-of}
 use Rattle.screening.specs.Rejections.{Condition, first-of, rejection, Accepted}
 use Rattle.screening.specs.Machine.{machine, observation}
 use Rattle.screening.proofs.Accepted.{skip, hit, rejection-none}
 use Rattle.screening.proofs.Places.{places}
 use Rattle.screening.proofs.Ranges.{ranges}
 use Rattle.restrictive.specs.Tests.{answers}
-use Rattle.relations.specs.Relations.{rule-at, silent-step, reach-for, reach, visits-for, visits, closure-sizes}
+use Rattle.relations.specs.Relations.{rule-at, silent-step, reach-for, visits-for, visits, closure-sizes}
 use Rattle.relations.proofs.SilentReach.{reach-self}
 use Rattle.restrictive.specs.Verdict.{Violation, pass, refused, first-violation, by-rules, after-rejection}
 use Rattle.restrictive.specs.Verdict.{Verdict, breaks, verdict, taken-by, taken}
@@ -44,10 +44,10 @@ use Rattle.restrictive.specs.Theorems.{
 use Rattle.bounded.specs.Search.{Below, count, total}
 use Rattle.bounded.proofs.Truth.{not-not}
 use Rattle.restrictive.specs.Earlier.{as-outputs}
-use Rattle.restrictive.proofs.Earlier.{earlier-accepted, is-earlier}
+use Rattle.restrictive.proofs.Earlier.{same-observers, earlier-accepted, is-earlier}
 use Rattle.restrictive.proofs.Taken.{taken-all, taken-none}
 use Rattle.restrictive.proofs.Reflect.{answers-iff, broken-iff, asked-placed}
-use Rattle.restrictive.proofs.First.{Finds, finds-as, IsViolation, finds-violation}
+use Rattle.restrictive.proofs.First.{Finds, finds-as, finds-first, Level, IsViolation, level-of, from-rule, finds-violation}
 
 -- ---- the rules by their numbers
 
@@ -71,47 +71,62 @@ rule-place rule-5 = ((4, omega arith), refl, refl)
 -- A violation is known by what it names.
 in-order-same : (v w : Violation) → in-order v ≡ in-order w → v ≡ w
 in-order-same v w e =
-    let q : _≡_ {A = Violation} (record { rule = v .rule; event = v .event; s = v .s; t = v .t; u = v .u })
-    (record { rule = w .rule; event = w .event; s = w .s; t = w .t; u = w .u }) = cc in
+    let q : _≡_ {A = Violation} (record { level = v .level; rule = v .rule; event = v .event; s = v .s; t = v .t; u = v .u })
+    (record { level = w .level; rule = w .rule; event = w .event; s = w .s; t = w .t; u = w .u }) = cc in
     q
 
 -- ---- the violations that the tests show are the breaks of the machine
 
 module _ (b : List ℕ) (a : Accepted b) where
-  names-iff : (v : Violation) → IsViolation b (observer-of b 0) v ↔ Names b a v
+  -- v is a violation for one of the observers.
+  abbrev Violates : Violation → Type 0
+  Violates = Level (observers b) (λ o. IsViolation b (observer-of b o))
+
+  names-iff : (v : Violation) → Violates v ↔ Names b a v
   names-iff v = (
-    λ (k, (i, (s, (t, (u, (c, q)))))).
+    λ (o, (k, (i, (s, (t, (u, (c, q))))))).
         subst (Names b a) q (record {
+          the-observer = o;
           the-rule = rule-at (k .0);
           s = s;
           t = t;
           u = u;
           as-named = rw (rule-at-number _ (k .1));
-          is-broken = broken-iff b a 0 _ _ (places b a .found (i .0) (i .1)) _ s t u .0 c;
+          is-broken = broken-iff b a (o .0) _ _ (places b a .found (i .0) (i .1)) _ s t u .0 c;
         }),
     λ w.
         let r = w .the-rule in
-        let (i, p) = asked-placed b a 0 r _ _ _ _ (w .is-broken .0) in
+        let o = w .the-observer in
+        let (i, p) = asked-placed b a (o .0) r _ _ _ _ (w .is-broken .0) in
         let (k, at, number) = rule-place r in
         let (h, event) = places b a .stands (v .event) i p in
-        let c = broken-iff b a 0 _ i p r _ _ _ .1 (w .is-broken) in
-        (k, ((i, h), (w .s, (w .t, (w .u, (rw at c, in-order-same _ v (cc))))))),
+        let c = broken-iff b a (o .0) _ i p r _ _ _ .1 (w .is-broken) in
+        (o, (k, ((i, h), (w .s, (w .t, (w .u, (rw at c, in-order-same _ v (cc)))))))),
   )
 
   -- The search for the first violation is one for the first break.
-  finds-break : Finds in-order (Names b a) (first-violation b (observer-of b 0))
-  finds-break = finds-as names-iff (finds-violation b (observer-of b 0) (ranges b a .identifiers-rise))
+  finds-break : Finds in-order (Names b a) (first-violation b)
+  unfolding first-violation
+  finds-break =
+      finds-as names-iff
+      (finds-first (observers b) (observer b) (ranges b a .observers-rise) (λ v. v .level) from-rule
+      (λ o. IsViolation b (observer-of b o)) (λ o v d. level-of b _ v d) _
+      (λ o h. finds-violation b (observer-of b o) (ranges b a .identifiers-rise)))
 
-  -- It finds nothing exactly if the machine is restrictive.
-  restrictive-iff : (first-violation b (observer-of b 0) ≡ none) ↔ Restrictive (machine b a) (observation b 0)
+  -- It finds nothing exactly if the machine is restrictive with each observation.
+  restrictive-iff : (first-violation b ≡ none)
+      ↔ ((o : ℕ) → o < observers b → Restrictive (machine b a) (observation b o))
   restrictive-iff = (
-    λ q r e s t u h.
-        let (i, p) = asked-placed b a 0 r e s t u h in
-        not-not (answers b (observer-of b 0) r i (s .0) (t .0) (u .0)) (answers-iff b a 0 e i p r s t u) (λ n.
-        finds-break .nothing .0 q (record { rule = rule-number r; event = e; s = s .0; t = t .0; u = u .0 })
-        (record { the-rule = r; s = s; t = t; u = u; as-named = refl; is-broken = (h, n) })),
+    λ q o l r e s t u h.
+        let (i, p) = asked-placed b a o r e s t u h in
+        not-not (answers b (observer-of b o) r i (s .0) (t .0) (u .0)) (answers-iff b a o e i p r s t u) (λ n.
+        finds-break .nothing .0 q
+        (record { level = observer b o; rule = rule-number r; event = e; s = s .0; t = t .0; u = u .0 })
+        (record { the-observer = (o, l); the-rule = r; s = s; t = t; u = u; as-named = refl; is-broken = (h, n) })),
     λ R. finds-break .nothing .1
-        (λ v w. w .is-broken .1 (R (w .the-rule) (v .event) (w .s) (w .t) (w .u) (w .is-broken .0))),
+        (λ v w.
+        let o = w .the-observer in
+        w .is-broken .1 (R (o .0) (o .1) (w .the-rule) (v .event) (w .s) (w .t) (w .u) (w .is-broken .0))),
   )
 
 -- ---- the first rejection
@@ -145,7 +160,7 @@ not-refused k none e = let z : _≡_ {A = ℕ} 0 1 = cc in omega arith
 not-refused k (some v) e = let z : _≡_ {A = ℕ} 0 1 = cc in omega arith
 
 module _ (b : List ℕ) where
-  accepted : Accepted b → verdict b ≡ by-rules (first-violation b (observer-of b 0))
+  accepted : Accepted b → verdict b ≡ by-rules (first-violation b)
   unfolding verdict after-rejection
   accepted a = rw (rejection-none b .1 a)
 
@@ -161,7 +176,7 @@ module _ (b : List ℕ) where
       go (some k) p = inr (k, p)
 
   by-rules-iff : (o : Option Violation)
-      → (verdict b ≡ by-rules o) ↔ (Accepted b × (first-violation b (observer-of b 0) ≡ o))
+      → (verdict b ≡ by-rules o) ↔ (Accepted b × (first-violation b ≡ o))
   by-rules-iff o = (
     λ e.
         ⊎-elim
@@ -197,20 +212,20 @@ refused-exactly b k = (
 )
 
 -- For any proof that no rejection applies.
-pub passing-restrictive : (b : List ℕ) (a : Accepted b) → verdict b ≡ pass → Restrictive (machine b a) (observation b 0)
+pub passing-restrictive : (b : List ℕ) (a : Accepted b) → verdict b ≡ pass → (o : ℕ) → o < observers b
+    → Restrictive (machine b a) (observation b o)
 unfolding by-rules
 passing-restrictive b a e = restrictive-iff b a .0 (by-rules-iff b _ .0 e .1)
 
 pub passing-hides : PassingHides
-passing-hides b a e = restrictive-hides _ _ _ (passing-restrictive b a e)
+passing-hides b a e o l = restrictive-hides _ _ _ (passing-restrictive b a e o l)
 
 pub earlier-passes : EarlierPasses
 earlier-passes b e =
     let (a, R) = passes-exactly (as-outputs b) .0 e in
     passes-exactly b .1 (
       earlier-accepted b a,
-      earlier-related (is-earlier b a 0 (ranges b (earlier-accepted b a)
-          .some-observer)) R,
+      λ o l. earlier-related (is-earlier b a o l) (R o (omega (arith, same-observers b a))),
     )
 
 -- ---- a break names one of the five rules
@@ -226,64 +241,71 @@ rule-most rule-5 = omega arith
 pub break-rule : (b : List ℕ) (v : Violation) → verdict b ≡ breaks v → v .rule ≤ 5
 break-rule b v e =
     let w = breaks-exactly b v .0 e .1 in
-    let q : v .rule ≡ rule-number (w .the-rule) = ap (λ (l : List ℕ). getD l 0 0) (w .as-named) in
+    let q : v .rule ≡ rule-number (w .the-rule) = ap (λ (l : List ℕ). getD l 1 0) (w .as-named) in
     omega (arith, rule-most (w .the-rule))
 
 -- ---- the states that are taken up
 
 -- The closures of the states of a record, together: as many as their visits, at least n, and at most n times n.
 module _ (b : List ℕ) where
-  sizes-visits : closure-sizes b (observer b 0) ≡ total (states b) (λ s. length (visits b 0 s))
+  sizes-visits : (o : ℕ) → closure-sizes b (observer b o) ≡ total (states b) (λ s. length (visits b o s))
   unfolding closure-sizes visits-for reach-for
-  sizes-visits =
-      total-same (states b) _ _ (λ s h. sym (length-visits (silent-step b (observer b 0)) (states b) s))
+  sizes-visits o =
+      total-same (states b) _ _ (λ s h. sym (length-visits (silent-step b (observer b o)) (states b) s))
 
-  sizes-within : (states b ≤ closure-sizes b (observer b 0)) × (closure-sizes b (observer b 0) ≤ states b * states b)
+  sizes-within : (l : ℕ) → (states b ≤ closure-sizes b l) × (closure-sizes b l ≤ states b * states b)
   unfolding closure-sizes
-  sizes-within =
-      let (least, most) = total-within (states b) 1 (states b) (λ s. count (states b) (reach b 0 s)) (λ s h. (
-        count-some (states b) (reach b 0 s) s h (reach-self b (observer b 0) s h),
-        count-le (states b) (reach b 0 s),
+  sizes-within l =
+      let (least, most) = total-within (states b) 1 (states b) (λ s. count (states b) (reach-for b l s)) (λ s h. (
+        count-some (states b) (reach-for b l s) s h (reach-self b l s h),
+        count-le (states b) (reach-for b l s),
       )) in
       (omega arith, most)
 
-  takes-all : TakesUp b → taken b ≡ closure-sizes b (observer b 0)
+  takes-all : (o : ℕ) → TakesUp b o → taken b ≡ closure-sizes b (observer b o)
   unfolding taken taken-by
-  takes-all (passing e) = ap (λ (v : Verdict). taken-by v (closure-sizes b (observer b 0))) e
-  takes-all (breaking v e late) =
-      ap (λ (v : Verdict). taken-by v (closure-sizes b (observer b 0))) e ∙ taken-all v _ late
+  takes-all o (passing e q) = ap (taken-by b) e ∙ ap (λ (p : ℕ). closure-sizes b (observer b p)) (sym q)
+  takes-all o (breaking v e late level) = ap (taken-by b) e ∙ taken-all b v late ∙ ap (closure-sizes b) level
 
-  -- It takes them up, or nothing.
-  takes-or-not : TakesUp b ⊎ (taken b ≡ 0)
+  -- A break of rule 4 or 5 is one for some observer.
+  break-taken : (v : Violation) → verdict b ≡ breaks v → (v .rule ≡ 4) ⊎ (v .rule ≡ 5)
+      → (o : Below (observers b)) × TakesUp b (o .0)
+  break-taken v e late =
+      let w = breaks-exactly b v .0 e .1 in
+      (w .the-observer, breaking v e late (ap (λ (l : List ℕ). getD l 0 0) (w .as-named)))
+
+  -- It takes them up for an observer, or nothing.
+  takes-or-not : ((o : Below (observers b)) × TakesUp b (o .0)) ⊎ (taken b ≡ 0)
   unfolding taken taken-by
   takes-or-not = go (verdict b) refl
     where
-      go : (v : Verdict) → verdict b ≡ v → TakesUp b ⊎ (taken-by (verdict b) (closure-sizes b (observer b 0)) ≡ 0)
-      go pass e = inl (passing e)
+      go : (v : Verdict) → verdict b ≡ v
+          → ((o : Below (observers b)) × TakesUp b (o .0)) ⊎ (taken-by b (verdict b) ≡ 0)
+      go pass e = inl ((0, ranges b (passes-exactly b .0 e .0) .some-observer), passing e refl)
       go (refused k) e = inr (rw e)
       go (breaks v) e =
           elim (ℕ-discrete (v .rule) 4) [
-            | yes q ↦ inl (breaking v e (inl q))
+            | yes q ↦ inl (break-taken v e (inl q))
             | no d ↦ elim (ℕ-discrete (v .rule) 5) [
-              | yes q ↦ inl (breaking v e (inr q))
-              | no f ↦ inr (rw e (taken-none v _ (⊎-elim d f)))
+              | yes q ↦ inl (break-taken v e (inr q))
+              | no f ↦ inr (rw e (taken-none b v (⊎-elim d f)))
             ]
           ]
 
   -- Then there is a state.
-  taking-accepted : TakesUp b → 1 ≤ states b
-  taking-accepted (passing e) = ranges b (passes-exactly b .0 e .0) .one-state
-  taking-accepted (breaking v e late) = ranges b (breaks-exactly b v .0 e .0) .one-state
+  taking-accepted : (o : ℕ) → TakesUp b o → 1 ≤ states b
+  taking-accepted o (passing e q) = ranges b (passes-exactly b .0 e .0) .one-state
+  taking-accepted o (breaking v e late level) = ranges b (breaks-exactly b v .0 e .0) .one-state
 
 pub taken-exactly : TakenExactly
 taken-exactly b = record {
-  all-closures = λ t. takes-all b t ∙ sizes-visits b;
+  all-closures = λ o l t. takes-all b o t ∙ sizes-visits b o;
   no-closures = (
-    λ e t. omega (arith, takes-all b t, sizes-within b .0, taking-accepted b t),
-    λ none. ⊎-elim (λ t. absurd (none t)) (λ e. e) (takes-or-not b),
+    λ e o l t. omega (arith, takes-all b o t, sizes-within b (observer b o) .0, taking-accepted b o t),
+    λ none. ⊎-elim (λ (o, t). absurd (none (o .0) (o .1) t)) (λ e. e) (takes-or-not b),
   );
 }
 
 pub taken-range : TakenRange
 taken-range b =
-    ⊎-elim (λ t. inr (rw (takes-all b t) (sizes-within b))) inl (takes-or-not b)
+    ⊎-elim (λ (o, t). inr (rw (takes-all b (o .0) t) (sizes-within b _))) inl (takes-or-not b)

@@ -9,9 +9,9 @@ use Rattle.restrictive.specs.declared.answer.Verdict.the-variants.{Pass,
 use Rattle.restrictive.specs.declared.answer.Report.{Report}
 use Rattle.restrictive.specs.Verdict as plain
 
--- A violation as it is named: rule, identifier, s, t, u.
+-- A violation as it is named: the observer's level, rule, identifier, s, t, u.
 unfoldable pub violation-of : Violation → plain.Violation
-violation-of v = record { rule = v .rule; event = v .event; s = v .s; t = v .t; u = v .u }
+violation-of v = record { level = v .level; rule = v .rule; event = v .event; s = v .s; t = v .t; u = v .u }
 
 -- A pass, a refusal by its number, a break with all its values.
 unfoldable pub verdict-of : Verdict → plain.Verdict

@@ -1,4 +1,5 @@
--- Records that tell the rules and the count from their wrong readings (document 01, "Wrong readings"; document 02, f and i).
+-- Records that tell the rules, the count and the order of the observers from their wrong readings (document 01, "Wrong readings"; document
+-- 02, f, i and k).
 use Prim.Native.Nat.{ℕ, _+_, _*_}
 use mathlib.Core.Bool.{Bool, _&&_}
 use mathlib.Core.List.{List, [], _∷_, _++_}
@@ -7,7 +8,7 @@ use lib.ListN.{length}
 use Rattle.words.specs.LittleEndian.{number, digits}
 use Rattle.restrictive.specs.Verdict.{Verdict, pass, refused}
 use Rattle.restrictive.specs.Earlier.{holds-kind, as-output-byte, as-outputs}
-use Rattle.restrictive.specs.Judged.{judged, counted, same, broken-at}
+use Rattle.restrictive.specs.Judged.{judged, counted, same, broken-at, broken-for}
 
 -- An entry, and a record for observer 0 with start 0 from classes, entries and rows.
 abbrev entry : ℕ → ℕ → ℕ → List ℕ
@@ -140,3 +141,67 @@ counts-so = passes-together && passes-apart && passes-unmoved && at-rule-5 && at
 counts : T counts-so
 unfolding counts-so
 counts = tt
+
+-- ---- several observers (document 02, k)
+
+-- A record of kind 2 with two states and start 0, for observers of the levels 0x00 and 0x40: their class columns, one behind the other,
+-- then entries and rows.
+unfoldable for-two : List ℕ → ℕ → List ℕ → List ℕ → List ℕ
+for-two columns m entries rows =
+    digits 4 (10 + 4 * m + 8 * length rows) ++ 2 ∷ 0 ∷ 2 ∷ 2 ∷ 0 ∷ m ∷ 0x00 ∷ 0x40 ∷ [] ++ columns ++ entries ++ words rows
+
+reported-for : List ℕ → Verdict → ℕ → Bool
+unfolding judged counted for-two
+reported-for b v k = same (judged b) v && eqb (counted b) k
+
+-- Input 1 of level 0x80 toggles. Where both states have one class it hides that, and where each has its own it breaks rule 2.
+abbrev toggling : List ℕ → List ℕ
+toggling columns = for-two columns 1 (entry 1 0 0x80) (2 ∷ 1 ∷ [])
+
+-- Each observer has its own column: with that of the other the second would pass, and the first would not.
+abbrev each-asked : Bool
+each-asked =
+    reported-for (toggling (0 ∷ 0 ∷ 0 ∷ 1 ∷ [])) (broken-for 0x40 2 1 0 1 0) 0
+    && reported-for (toggling (0 ∷ 1 ∷ 0 ∷ 0 ∷ [])) (broken-for 0x00 2 1 0 1 0) 0
+    && reported-for (toggling (0 ∷ 0 ∷ 0 ∷ 0 ∷ [])) pass 2
+
+-- The first observer breaks rule 5 by event 2, the second rule 2 by event 1. The observer comes first, and the count is its own: for the
+-- second, which sees event 3, it would be 2.
+abbrev observer-first : Bool
+observer-first =
+    reported-for
+    (for-two (0 ∷ 0 ∷ 0 ∷ 1 ∷ []) 3 (entry 1 0 0x80 ++ entry 2 1 0x00 ++ entry 3 1 0x40) (2 ∷ 1 ∷ 1 ∷ 0 ∷ 2 ∷ 0 ∷ []))
+    (broken-for 0x00 5 2 0 0 1) 3
+
+-- Output 1 of level 0x40 leads from 0 to 1. To the first observer it is silent, and its closures have 3 states. A break by the second counts
+-- the second's, which are 2, and a pass the first's.
+abbrev telling : List ℕ → List ℕ
+telling columns = for-two columns 1 (entry 1 1 0x40) (2 ∷ 0 ∷ [])
+
+abbrev own-count : Bool
+own-count =
+    reported-for (telling (0 ∷ 0 ∷ 0 ∷ 0 ∷ [])) (broken-for 0x40 5 1 0 1 1) 2
+    && reported-for (telling (0 ∷ 0 ∷ 0 ∷ 1 ∷ [])) pass 3
+
+-- Rule 1 is the same for all observers: it is told for the first. A class of the second column that only the first has before it is
+-- refused.
+abbrev alike : Bool
+alike =
+    reported-for (for-two (0 ∷ 0 ∷ 0 ∷ 0 ∷ []) 1 (entry 1 0 0x40) (1 ∷ 0 ∷ [])) (broken-for 0x00 1 1 1 0 0) 0
+    && reported-for (toggling (0 ∷ 1 ∷ 0 ∷ 2 ∷ [])) (refused 6) 0
+
+-- In the earlier reading the kinds are changed where the entries of kind 2 stand.
+abbrev silenced : ℕ → List ℕ
+silenced kind = for-two (0 ∷ 0 ∷ 0 ∷ 0 ∷ []) 1 (entry 1 kind 0x40) (2 ∷ 0 ∷ [])
+
+earlier-for-two : Bool
+unfolding for-two as-outputs as-output-byte holds-kind judged
+earlier-for-two = eqb (number 36 (as-outputs (silenced 2)) 0) (number 36 (silenced 1) 0) && same (judged (silenced 2)) pass
+
+observers-so : Bool
+unfolding reported-for earlier-for-two
+observers-so = each-asked && observer-first && own-count && alike && earlier-for-two
+
+several : T observers-so
+unfolding observers-so
+several = tt

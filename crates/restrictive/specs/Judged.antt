@@ -13,11 +13,11 @@ use Rattle.screening.specs.Computed.{rejected-with}
 use Rattle.part.specs.Events.{kind-of}
 use Rattle.relations.specs.Relations.{role-at, leads, same-class, step-by, silent-step, reach-for, closure-sizes, rule-at}
 use Rattle.restrictive.specs.Tests.{around, asks, answers, broken}
-use Rattle.restrictive.specs.Verdict.{Violation, Verdict, pass, refused, breaks, violation-at, state-violation, event-violation, rule-violation, first-violation, by-rules, after-rejection, verdict, taken-by, taken}
+use Rattle.restrictive.specs.Verdict.{Violation, Verdict, pass, refused, breaks, violation-at, state-violation, event-violation, rule-violation, violation-for, first-violation, by-rules, after-rejection, verdict, taken-by, taken}
 
 -- The verdict, computed.
 unfoldable pub judged : List ℕ → Verdict
-unfolding rejected-with verdict after-rejection by-rules first-violation rule-violation event-violation state-violation violation-at when rule-at broken answers asks around reach-for reaches in-steps silent-step step-by same-class leads role-at role-of at-level kind-of observer all first or-else bit low at-or-below rank
+unfolding rejected-with verdict after-rejection by-rules first-violation violation-for rule-violation event-violation state-violation violation-at when rule-at broken answers asks around reach-for reaches in-steps silent-step step-by same-class leads role-at role-of at-level kind-of observer all first or-else bit low at-or-below rank
 judged b = verdict b
 
 -- The count, computed.
@@ -26,7 +26,7 @@ unfolding judged taken taken-by closure-sizes total count
 counted b = taken b
 
 abbrev pub same-violation : Violation → Violation → Bool
-same-violation v w = eqb (v .rule) (w .rule) && eqb (v .event) (w .event) && eqb (v .s) (w .s) && eqb (v .t) (w .t) && eqb (v .u) (w .u)
+same-violation v w = eqb (v .level) (w .level) && eqb (v .rule) (w .rule) && eqb (v .event) (w .event) && eqb (v .s) (w .s) && eqb (v .t) (w .t) && eqb (v .u) (w .u)
 
 abbrev pub same : Verdict → Verdict → Bool
 same pass pass = true
@@ -39,6 +39,9 @@ same (breaks w) pass = false
 same (breaks w) (refused k) = false
 same (breaks w) (breaks v) = same-violation w v
 
--- A break by its values.
+-- A break by its values: for an observer of some level, and for one of level 0.
+abbrev pub broken-for : ℕ → ℕ → ℕ → ℕ → ℕ → ℕ → Verdict
+broken-for l r e s t u = breaks (record { level = l; rule = r; event = e; s = s; t = t; u = u })
+
 abbrev pub broken-at : ℕ → ℕ → ℕ → ℕ → ℕ → Verdict
-broken-at r e s t u = breaks (record { rule = r; event = e; s = s; t = t; u = u })
+broken-at = broken-for 0

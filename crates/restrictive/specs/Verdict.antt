@@ -1,18 +1,19 @@
--- The verdict of Check on a record (document 01, "The five rules" and "Order"): the rejections, then the first violation by rule, event,
--- s, t, u, each ascending. And how many states it takes up (document 02, f).
+-- The verdict of Check on a record (document 01, "The five rules" and "Order"; document 02, k): the rejections, then the first violation by
+-- observer, in the order of the list, then by rule, event, s, t, u, each ascending. And how many states it takes up (document 02, f).
 use Prim.Native.Nat.{ℕ, suc}
 use mathlib.Core.Bool.{_||_, cond}
 use mathlib.Core.List.{List}
 use mathlib.Core.Option.{Option, none, some}
 use lib.Dec.{eqb}
 use Rattle.bounded.specs.Search.{first, when}
-use Rattle.part.specs.Record.{observer, states, events, identifier, Observer, observer-of}
+use Rattle.part.specs.Record.{observers, observer, states, events, identifier, Observer, observer-of}
 use Rattle.screening.specs.Rejections.{rejection}
 use Rattle.relations.specs.Relations.{rule-at, closure-sizes}
 use Rattle.restrictive.specs.Tests.{broken}
 
--- A violation (document 01: a break): rule, identifier, s, t, u.
+-- A violation (document 01: a break): the level of the observer concerned, rule, identifier, s, t, u.
 pub record Violation : Type 0 where
+  pub level : ℕ
   pub rule : ℕ
   pub event : ℕ
   pub s : ℕ
@@ -24,12 +25,12 @@ pub data Verdict : Type 0 where
   refused : ℕ → Verdict
   breaks : Violation → Verdict
 
--- The violation of a rule by the event at place i at s, t, u, where it is one.
+-- The violation of a rule for an observer by the event at place i at s, t, u, where it is one.
 unfoldable pub violation-at : List ℕ → Observer → ℕ → ℕ → ℕ → ℕ → ℕ → Option Violation
 violation-at b o k i s t u =
-    when (broken b o (rule-at k) i s t u) (record { rule = suc k; event = identifier b i; s = s; t = t; u = u })
+    when (broken b o (rule-at k) i s t u) (record { level = o .level; rule = suc k; event = identifier b i; s = s; t = t; u = u })
 
--- The first at a state s, of an event, of a rule, of the record.
+-- The first at a state s, of an event, of a rule, for an observer, of the record.
 unfoldable pub state-violation : List ℕ → Observer → ℕ → ℕ → ℕ → Option Violation
 state-violation b o k i s = first (states b) (λ t. first (states b) (violation-at b o k i s t))
 
@@ -39,8 +40,11 @@ event-violation b o k i = first (states b) (state-violation b o k i)
 unfoldable pub rule-violation : List ℕ → Observer → ℕ → Option Violation
 rule-violation b o k = first (events b) (event-violation b o k)
 
-unfoldable pub first-violation : List ℕ → Observer → Option Violation
-first-violation b o = first 5 (rule-violation b o)
+unfoldable pub violation-for : List ℕ → Observer → Option Violation
+violation-for b o = first 5 (rule-violation b o)
+
+unfoldable pub first-violation : List ℕ → Option Violation
+first-violation b = first (observers b) (λ o. violation-for b (observer-of b o))
 
 -- The verdict by the rules alone.
 unfoldable pub by-rules : Option Violation → Verdict
@@ -48,18 +52,18 @@ by-rules none = pass
 by-rules (some v) = breaks v
 
 unfoldable pub after-rejection : Option ℕ → List ℕ → Verdict
-after-rejection none b = by-rules (first-violation b (observer-of b 0))
+after-rejection none b = by-rules (first-violation b)
 after-rejection (some k) b = refused k
 
 unfoldable pub verdict : List ℕ → Verdict
 verdict b = after-rejection (rejection b) b
 
--- How many states Check takes up: the sizes of the silent closures of all states together where the record passes or breaks rule 4 or 5,
--- and otherwise none.
-unfoldable pub taken-by : Verdict → ℕ → ℕ
-taken-by pass sizes = sizes
-taken-by (refused k) sizes = 0
-taken-by (breaks v) sizes = cond (eqb (v .rule) 4 || eqb (v .rule) 5) sizes 0
+-- How many states Check takes up: the sizes of the silent closures of all states together, for the first observer where the record passes,
+-- and for the observer of a break of rule 4 or 5. Otherwise none.
+unfoldable pub taken-by : List ℕ → Verdict → ℕ
+taken-by b pass = closure-sizes b (observer b 0)
+taken-by b (refused k) = 0
+taken-by b (breaks v) = cond (eqb (v .rule) 4 || eqb (v .rule) 5) (closure-sizes b (v .level)) 0
 
 unfoldable pub taken : List ℕ → ℕ
-taken b = taken-by (verdict b) (closure-sizes b (observer b 0))
+taken b = taken-by b (verdict b)

@@ -1,8 +1,10 @@
 // The answers of Check, and the cases that it judges. specs/Answers.antt gives each answer its meaning.
 use screening::Rejection;
 
-// A violation of a rule (document 01: a break): the rule's number, the event's identifier, and the states s, t, u.
+// A violation of a rule (document 01: a break): the level of the observer concerned, the rule's number, the event's identifier, and the
+// states s, t, u.
 pub struct Violation {
+    pub level: u8,
     pub rule: usize,
     pub event: usize,
     pub s: usize,

@@ -1,12 +1,17 @@
 // Check (document 01, "The shelf"; document 02, f).
 ghost use mathlib.Core.Path.{_≡_};
+ghost use mathlib.Core.Option.{none};
+ghost use Prim.Native.Nat.{_<_};
+ghost use Rattle.part.specs.Record.{observers, observer-of};
+ghost use Rattle.screening.specs.Rejections.{rejection};
 ghost use Rattle.restrictive.specs.Verdict.{by-rules};
 ghost use Rattle.restrictive.specs.Answers.{verdict-of, Reports};
-ghost use Rattle.restrictive.specs.Found.{found-of};
+ghost use Rattle.restrictive.specs.Found.{found-of, FindingFor, FindingIn};
+use crate::answer::Finding;
 use crate::answer::Found;
 use crate::answer::Report;
 use crate::answer::Verdict;
-use crate::rules::first_violation;
+use crate::rules::violation_for;
 use part::Part;
 use screening::Screening;
 use screening::screen;
@@ -18,6 +23,41 @@ fn by_rules(found: Found) -> Verdict
     match found {
         Found::At(v) => Verdict::Break(v),
         Found::Nothing => Verdict::Pass,
+    }
+}
+
+// The first violation of an accepted record for observer o.
+fn for_observer(b: &[u8], o: usize) -> Finding
+    requires { ⌜ rejection (now b) ≡ none ⌝ }
+    requires { ⌜ o < observers (now b) ⌝ }
+    ensures { λ r. ⌜ FindingFor (now (b .entry)) (observer-of (now (b .entry)) o) r ⌝ }
+{
+    violation_for(b, Part::observer(b, o), Part::column(b, o))
+}
+
+// The first violation of an accepted record, observer by observer. Where there is none, the states taken up are those of the first.
+fn by_observers(b: &[u8]) -> Finding
+    requires { ⌜ rejection (now b) ≡ none ⌝ }
+    ensures { λ r. ⌜ FindingIn (now (b .entry)) r ⌝ }
+{
+    let count = Part::observers(b);
+    let mut first = 0;
+    let mut o = 0;
+    while o < count {
+        let finding = for_observer(b, o);
+        let found = finding.found;
+        match found {
+            Found::At(_) => return finding,
+            Found::Nothing => {}
+        }
+        if o == 0 {
+            first = finding.taken;
+        }
+        o += 1;
+    }
+    Finding {
+        found: Found::Nothing,
+        taken: first,
     }
 }
 
@@ -33,7 +73,7 @@ pub fn check(bytes: &[u8]) -> Report
         },
         Screening::Accepted => {}
     }
-    let rules = first_violation(bytes, Part::observer(bytes, 0), Part::column(bytes, 0));
+    let rules = by_observers(bytes);
     let found = rules.found;
     Report {
         verdict: by_rules(found),

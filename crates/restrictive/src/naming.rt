@@ -27,9 +27,10 @@ use words::set;
 fn violation(b: &[u8], case: Case, s: usize, t: usize, u: usize) -> Violation
     requires { ⌜ Framed (now b) ⌝ }
     requires { ⌜ (case .event < events (now b)) × (case .rule < 5) ⌝ }
-    ensures { λ r. ⌜ violation-of r ≡ record { rule = suc (case .rule); event = identifier (now (b .entry)) (case .event); s = s; t = t; u = u } ⌝ }
+    ensures { λ r. ⌜ violation-of r ≡ record { level = case .observer; rule = suc (case .rule); event = identifier (now (b .entry)) (case .event); s = s; t = t; u = u } ⌝ }
 {
     Violation {
+        level: case.observer,
         rule: case.rule + 1,
         event: Part::identifier(b, case.event),
         s,

@@ -13,8 +13,8 @@ ghost use Rattle.words.specs.Sets.{Rows};
 ghost use Rattle.relations.specs.Relations.{role-at, concerns, rule-at, reach-for};
 ghost use Rattle.relations.specs.Sets.{Sound, Concerned, ClassOf};
 ghost use Rattle.restrictive.specs.Sets.{offer, Offers, Permitted, reached, observer-in, OfferedDirectly, OfferedSilently};
-ghost use Rattle.restrictive.specs.Verdict.{event-violation, rule-violation, first-violation};
-ghost use Rattle.restrictive.specs.Found.{found-of, FindingOf};
+ghost use Rattle.restrictive.specs.Verdict.{event-violation, rule-violation, violation-for};
+ghost use Rattle.restrictive.specs.Found.{found-of, FindingFor};
 use crate::answer::Case;
 use crate::answer::Finding;
 use crate::answer::Found;
@@ -225,7 +225,7 @@ fn with_closures(
     requires { ⌜ Rows (states (now b)) (now closure) (reach-for (now b) observer) ⌝ }
     requires { ⌜ ClassOf (length (now column)) (byte (now column)) (now labels) ⌝ }
     requires { ⌜ first 3 (rule-violation (now b) (observing observer (now column))) ≡ none ⌝ }
-    ensures { λ r. ⌜ found-of r ≡ first-violation (now (b .entry)) (observing observer (now (column .entry))) ⌝ }
+    ensures { λ r. ⌜ found-of r ≡ violation-for (now (b .entry)) (observing observer (now (column .entry))) ⌝ }
 {
     let silent = concerned[RULE_4];
     let outputs = concerned[RULE_5];
@@ -264,7 +264,7 @@ fn rules_from_4(
     requires { ⌜ ((k : ℕ) → k < 5 → Concerned (now b) observer k (getD (now concerned) k 0)) ⌝ }
     requires { ⌜ ClassOf (length (now column)) (byte (now column)) (now labels) ⌝ }
     requires { ⌜ first 3 (rule-violation (now b) (observing observer (now column))) ≡ none ⌝ }
-    ensures { λ r. ⌜ FindingOf (now (b .entry)) (observing observer (now (column .entry))) r ⌝ }
+    ensures { λ r. ⌜ FindingFor (now (b .entry)) (observing observer (now (column .entry))) r ⌝ }
 {
     let silent = concerned[RULE_4];
     let outputs = concerned[RULE_5];
@@ -308,7 +308,7 @@ fn rules_from_3(b: &[u8], observer: u8, column: &[u8], concerned: &[u64; 5]) -> 
     requires { ⌜ Sound (now b) (now column) ⌝ }
     requires { ⌜ ((k : ℕ) → k < 5 → Concerned (now b) observer k (getD (now concerned) k 0)) ⌝ }
     requires { ⌜ first 2 (rule-violation (now b) (observing observer (now column))) ≡ none ⌝ }
-    ensures { λ r. ⌜ FindingOf (now (b .entry)) (observing observer (now (column .entry))) r ⌝ }
+    ensures { λ r. ⌜ FindingFor (now (b .entry)) (observing observer (now (column .entry))) r ⌝ }
 {
     let labels = classes::class_of(column);
     let mut scratch = [0u64; 64];
@@ -346,7 +346,7 @@ fn rules_from_2(b: &[u8], observer: u8, column: &[u8], concerned: &[u64; 5]) -> 
     requires { ⌜ Sound (now b) (now column) ⌝ }
     requires { ⌜ ((k : ℕ) → k < 5 → Concerned (now b) observer k (getD (now concerned) k 0)) ⌝ }
     requires { ⌜ first 1 (rule-violation (now b) (observing observer (now column))) ≡ none ⌝ }
-    ensures { λ r. ⌜ FindingOf (now (b .entry)) (observing observer (now (column .entry))) r ⌝ }
+    ensures { λ r. ⌜ FindingFor (now (b .entry)) (observing observer (now (column .entry))) r ⌝ }
 {
     let found = rule_2(b, observer, column, concerned[RULE_2]);
     match found {
@@ -363,9 +363,9 @@ fn rules_from_2(b: &[u8], observer: u8, column: &[u8], concerned: &[u64; 5]) -> 
 }
 
 // The first violation of the rules, for an observer of this level and the classes of the column, and how many states are taken up.
-pub fn first_violation(b: &[u8], observer: u8, column: &[u8]) -> Finding
+pub fn violation_for(b: &[u8], observer: u8, column: &[u8]) -> Finding
     requires { ⌜ Sound (now b) (now column) ⌝ }
-    ensures { λ r. ⌜ FindingOf (now (b .entry)) (observing observer (now (column .entry))) r ⌝ }
+    ensures { λ r. ⌜ FindingFor (now (b .entry)) (observing observer (now (column .entry))) r ⌝ }
 {
     if Part::events(b) == 0 {
         return Finding {

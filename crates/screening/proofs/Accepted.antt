@@ -9,7 +9,7 @@ use mathlib.Core.Logic.{_↔_, ⊎-elim}
 use native.Mathlib.Omega.{arith}
 use Rattle.bounded.specs.Search.{or-else}
 use Rattle.bounded.proofs.Search.{true-or-false}
-use Rattle.screening.specs.Rejections.{too-short, wrong-length, wrong-kind, out-of-range, wrong-size, misnumbered}
+use Rattle.screening.specs.Rejections.{too-short, wrong-length, wrong-kind, out-of-range, wrong-size, mislisted, misnumbered}
 use Rattle.screening.specs.Rejections.{misordered, mislabelled-part, stray-bit, Condition, frame-conditions}
 use Rattle.screening.specs.Rejections.{content-conditions, first-of, rejection, NoneOf, Accepted}
 
@@ -85,6 +85,9 @@ module _ (b : List ℕ) (a : NoneOf frame-conditions b) where
 
   pub not-wrong-size : wrong-size b ≡ false
   not-wrong-size = search
+
+  pub not-mislisted : mislisted b ≡ false
+  not-mislisted = search
 
 module _ (b : List ℕ) (a : Accepted b) where
   pub not-misnumbered : misnumbered b ≡ false

@@ -4,7 +4,7 @@ use mathlib.Core.Path.{_≡_, refl, sym, ap, _∙_, subst}
 use mathlib.Core.Bool.{Bool, true, false}
 use mathlib.Core.List.{List}
 use mathlib.Core.Option.{some}
-use mathlib.Core.Logic.{_↔_, Iff·rfl, Iff·symm, Iff·trans}
+use mathlib.Core.Logic.{_↔_, _⊎_, inl, inr, ⊎-elim, Iff·rfl, Iff·symm, Iff·trans}
 use native.Mathlib.Omega.{arith}
 use lib.Dec.{T}
 use Rattle.bounded.proofs.Search.{passed}
@@ -12,17 +12,17 @@ use Rattle.machine.specs.Machine.{Kind, input, output, internal}
 use Rattle.words.proofs.Sets.{same-members}
 use Rattle.words.specs.LittleEndian.{byte}
 use Rattle.part.specs.declared.format.Form.{Form}
-use Rattle.part.specs.Format.{max-event-kind, one-observer}
-use Rattle.part.specs.Record.{kind, lead, form-of, observer, states, events, identifier, event-kind, level, row}
-use Rattle.screening.specs.Rejections.{wrong-kind, Accepted}
+use Rattle.part.specs.Format.{single-kind, several-kind, max-event-kind, one-observer, several-observers}
+use Rattle.part.specs.Record.{kind, lead, form-of, observers, observer, listed-level, states, events, identifier, event-kind, level, row}
+use Rattle.screening.specs.Rejections.{Accepted}
 use Rattle.part.specs.Frame.{fields-of}
 use Rattle.part.specs.Events.{kind-of, place, event-of}
 use Rattle.screening.specs.Theorems.{Same, Extensionality}
 use Rattle.part.proofs.Rising.{Within, same-sequence}
-use Rattle.screening.proofs.Accepted.{in-frame, not-wrong-kind}
-use Rattle.part.proofs.Fields.{form-one}
-use Rattle.screening.proofs.Rejections.{kind-is}
-use Rattle.screening.proofs.Ranges.{frame, ranges, row-lt}
+use Rattle.screening.proofs.Accepted.{in-frame}
+use Rattle.part.proofs.Fields.{form-one, form-several, own-columns}
+use Rattle.screening.proofs.Rejections.{well-described}
+use Rattle.screening.proofs.Ranges.{ranges, row-lt}
 use Rattle.screening.proofs.LayoutLaws.{layout-fields, layout-cong}
 use Rattle.screening.proofs.Places.{places}
 use Rattle.part.proofs.Places.{event-at, event-placed, leads-at}
@@ -94,18 +94,69 @@ module _ (a b : List ℕ) (ok : Accepted a) (ok′ : Accepted b) (same : Same a 
         same-test _ _ (Iff·trans (Iff·symm (leads-at a _ i s t placed))
         (Iff·trans (same .steps (identifier a i) s t l n) (leads-at b _ i s t placed′))))
 
--- ---- kind 1
+-- ---- kind, first byte and list, by the observers
 
-kind-right : (b : List ℕ) → Accepted b → wrong-kind b ≡ false
-kind-right b a = not-wrong-kind b (in-frame b a)
+-- Kind 1: there is one observer, the first byte is its level, and nothing is listed.
+record OneObserver (b : List ℕ) : Type 0 where
+  kind-is : kind b ≡ single-kind
+  alone : observers b ≡ 1
+  first : lead b ≡ observer b 0
+  unlisted : form-of b .listed ≡ 0
 
-one-form : (b : List ℕ) → Accepted b → form-of b ≡ one-observer
-one-form b a = form-one (kind b) (lead b) (kind-is b (kind-right b a))
+-- Kind 2: there are at least two, the first byte is their number, and their levels are listed.
+record SeveralObservers (b : List ℕ) : Type 0 where
+  kind-is : kind b ≡ several-kind
+  several : 2 ≤ observers b
+  first : lead b ≡ observers b
+  all-listed : form-of b .listed ≡ observers b
+  list : (o : ℕ) → listed-level b o ≡ observer b o
 
--- The first byte is the observer's level.
-one-level : (b : List ℕ) → Accepted b → lead b ≡ observer b 0
-unfolding lead observer
-one-level b a = ap (λ (f : Form). byte b (f .levels + 0)) (sym (one-form b a))
+by-kind : (b : List ℕ) → Accepted b → OneObserver b ⊎ SeveralObservers b
+unfolding lead observer listed-level
+by-kind b a = ⊎-elim
+    (λ e.
+    let form : form-of b ≡ one-observer = form-one (kind b) (lead b) e in
+    inl (record {
+      kind-is = e;
+      alone = ap (λ (f : Form). f .observers) form;
+      first = ap (λ (f : Form). byte b (f .levels + 0)) (sym form);
+      unlisted = ap (λ (f : Form). f .listed) form;
+    }))
+    (λ w.
+    let form : form-of b ≡ several-observers (lead b) = form-several (kind b) (lead b) (w .kind-is) in
+    let count : observers b ≡ lead b = ap (λ (f : Form). f .observers) form in
+    inr (record {
+      kind-is = w .kind-is;
+      several = omega (arith, w .least);
+      first = sym count;
+      all-listed = ap (λ (f : Form). f .listed) form ∙ sym count;
+      list = λ o. ap (λ (f : Form). byte b (f .levels + o)) (sym form);
+    }))
+    (well-described b (in-frame b a))
+
+-- What the observers say of them.
+record SameHead (a b : List ℕ) : Type 0 where
+  kinds : kind a ≡ kind b
+  leads : lead a ≡ lead b
+  lists : (o : ℕ) → o < form-of b .listed → listed-level a o ≡ listed-level b o
+
+same-head : (a b : List ℕ) → Accepted a → Accepted b → observers a ≡ observers b
+    → ((o : ℕ) → o < observers b → observer a o ≡ observer b o) → SameHead a b
+same-head a b ok ok′ counts levels = go (by-kind a ok) (by-kind b ok′)
+  where
+    go : OneObserver a ⊎ SeveralObservers a → OneObserver b ⊎ SeveralObservers b → SameHead a b
+    go (inl x) (inl y) = record {
+      kinds = x .kind-is ∙ sym (y .kind-is);
+      leads = x .first ∙ levels 0 (omega (arith, y .alone)) ∙ sym (y .first);
+      lists = λ o l. absurd (omega (arith, y .unlisted));
+    }
+    go (inl x) (inr y) = absurd (omega (arith, x .alone, y .several))
+    go (inr x) (inl y) = absurd (omega (arith, x .several, y .alone))
+    go (inr x) (inr y) = record {
+      kinds = x .kind-is ∙ sym (y .kind-is);
+      leads = x .first ∙ counts ∙ sym (y .first);
+      lists = λ o l. x .list o ∙ levels o (omega (arith, y .all-listed)) ∙ sym (y .list o);
+    }
 
 same-self : (a : List ℕ) → Same a a
 same-self a = record {
@@ -122,10 +173,11 @@ pub extensionality : Extensionality
 extensionality a b bytes bytes′ ok ok′ = (
   λ e. subst (λ (x : List ℕ). Same a x) e (same-self a),
   λ same.
+      let head = same-head b a ok′ ok (sym (same .observer-counts)) (λ o l. sym (same .levels o l)) in
       sym (layout-fields a bytes ok)
       ∙ sym (layout-cong (fields-of b) (fields-of a) (record {
-        kinds = kind-is b (kind-right b ok′) ∙ sym (kind-is a (kind-right a ok));
-        leads = one-level b ok′ ∙ sym (same .levels 0 (frame a ok .some-observer)) ∙ sym (one-level a ok);
+        kinds = head .kinds;
+        leads = head .leads;
         tables = record {
           counts = sym (same .counts);
           starts = sym (same .starts);
@@ -135,9 +187,8 @@ extensionality a b bytes bytes′ ok ok′ = (
           levels = λ i h. sym (same-event a b ok ok′ same i h .1);
           rows = λ i s h l. sym (same-row a b ok ok′ same i h s l);
         };
-        lists = λ o h. absurd (let none = subst (λ (f : Form). o < f .listed) (one-form a ok) h in omega arith);
-        classes = λ o s h l. sym (same .classes o s (subst (λ (f : Form). o < f .observers) (sym (one-form a ok))
-            (subst (λ (f : Form). o < f .columns) (one-form a ok) h)) l);
+        lists = head .lists;
+        classes = λ o s h l. sym (same .classes o s (omega (arith, own-columns a)) l);
       }))
       ∙ layout-fields b bytes′ ok′,
 )

@@ -2,6 +2,7 @@
 use Prim.Native.Nat.{ℕ, zero, suc, _-_, _^_, _≤_, _<_}
 use mathlib.Core.Path.{_≡_, refl, sym, ap, _∙_, subst}
 use mathlib.Core.Bool.{false, not}
+use mathlib.Core.Logic.{⊎-elim}
 use native.Mathlib.Nat.{lt-of-lt-of-le}
 use native.Mathlib.Decide.{decLe}
 use native.Mathlib.Omega.{arith}
@@ -11,29 +12,31 @@ use borrow.Author.Tests.{le-ltb, lt-leb, eq-eqb}
 use Rattle.bounded.proofs.Search.{any-fails, or-then}
 use Rattle.words.specs.Sets.{exceeds}
 use Rattle.level.specs.Level.{mislabelled}
-use Rattle.part.specs.Format.{part-kind, max-states, max-events, max-event-kind, header}
+use Rattle.part.specs.Format.{max-observers, max-states, max-events, max-event-kind, header}
 use Rattle.part.specs.Format.{body-size}
-use Rattle.part.specs.Record.{body-length, states, start, events, counts, form-of}
+use Rattle.part.specs.Record.{body-length, lead, observer, states, start, events, counts, form-of}
 use Rattle.part.specs.Record.{column, class, classes-below}
 use Rattle.part.specs.Record.{identifier, event-kind, row}
 use Rattle.screening.specs.Rejections.{too-short, wrong-length, wrong-kind, out-of-range, wrong-size, misnumbered, misnumbered-at}
 use Rattle.screening.specs.Rejections.{unnumbered, skips-at, misordered, misordered-at, falls-at, unknown-at}
 use Rattle.screening.specs.Rejections.{mislabelled-part, mislabelled-observer, mislabelled-at, stray-bit, row-strays, strays-at}
-use Rattle.screening.specs.Rejections.{frame-conditions, NoneOf, Accepted}
+use Rattle.screening.specs.Rejections.{miscounted, observer-falls, mislisted, frame-conditions, NoneOf, Accepted}
 use Rattle.part.specs.Layout.{Fields, shape, counts-of, layout}
 use Rattle.part.specs.declared.format.Counts.{Counts}
 use Rattle.part.specs.declared.format.Form.{Form}
 use Rattle.part.specs.Frame.{Few, fields-of}
-use Rattle.part.proofs.Fields.{form-one, form-allowed, few-rows, few-classes, level-inside, column-size}
-use Rattle.screening.proofs.Rejections.{last-range-test, framed}
+use Rattle.part.proofs.Fields.{Described, form-allowed, few-rows, few-classes, level-inside, column-size}
+use Rattle.screening.proofs.Rejections.{kind-one, kind-other, no-count, last-count-test, last-range-test, framed, not-falling}
 use Rattle.screening.proofs.Ranges.{class-counted}
 use Rattle.screening.proofs.LayoutLaws.{Agree, level-in, level-read, level-agree}
-use Rattle.screening.proofs.ReadBack.{Fits, length-layout, read-kind, read-counts, read-length, read-back}
+use Rattle.screening.proofs.ReadBack.{Fits, length-layout, read-kind, read-lead, read-counts, read-length, read-back}
 
 -- Fields that a record may have: what Ranges says of accepted records, and room in their bytes.
 pub record Proper (f : Fields) : Type 0 where
-  pub kind-known : f .kind ≡ part-kind
+  pub described : Described (f .kind) (f .lead)
   pub lead-fits : f .lead < 256
+  pub listed-fits : (o : ℕ) → o < shape f .listed → f .listed o < 256
+  pub observers-rise : (o : ℕ) → suc o < shape f .observers → level-in f o < level-in f (suc o)
   pub one-state : 1 ≤ f .table .states
   pub most-states : f .table .states ≤ max-states
   pub start-is-state : f .table .start < f .table .states
@@ -67,7 +70,7 @@ class-small f p o w (suc n) s h l =
 
 pub proper-few : (f : Fields) → Proper f → Few (counts-of f)
 proper-few f p =
-    let narrow = form-allowed (f .kind) (f .lead) (p .kind-known) .narrow in
+    let narrow = form-allowed (f .kind) (f .lead) (p .described) .narrow in
     record {
       most-listed = omega (arith, narrow .lists);
       most-columns = omega (arith, narrow .columns);
@@ -79,10 +82,9 @@ pub proper-fits : (f : Fields) → Proper f → Fits f
 proper-fits f p =
     let few = proper-few f p in
     record {
-      kind-fits = rw (p .kind-known) (omega arith);
+      kind-fits = ⊎-elim (λ e. omega arith) (λ w. omega (arith, w .kind-is)) (p .described);
       lead-fits = p .lead-fits;
-      listed-fits = λ o l.
-          absurd (let none = subst (λ (w : Form). o < w .listed) (form-one _ _ (p .kind-known)) l in omega arith);
+      listed-fits = p .listed-fits;
       count-fits = omega (arith, p .most-states);
       start-fits = omega (arith, p .start-is-state, p .most-states);
       event-count-fits = omega (arith, p .most-events);
@@ -114,8 +116,12 @@ module _ (f : Fields) (p : Proper f) where
       (omega (arith, length-layout f, length-read)))
 
   kind-right : wrong-kind (layout f) ≡ false
-  unfolding wrong-kind
-  kind-right = ap not (eq-eqb _ _ (read-kind f (proper-fits f p) ∙ p .kind-known))
+  kind-right =
+      let read = read-kind f (proper-fits f p) in
+      ⊎-elim
+      (λ e. kind-one (layout f) (read ∙ e))
+      (λ w. kind-other (layout f) (λ e. omega (arith, w .kind-is)) ∙ ap not (eq-eqb _ _ (read ∙ w .kind-is)))
+      (p .described)
 
   in-range : out-of-range (layout f) ≡ false
   in-range =
@@ -147,8 +153,37 @@ module _ (f : Fields) (p : Proper f) where
       let d : class (layout f) o (w .0) ≡ f .class o (w .0) = agree .classes o (w .0) k (omega arith) in
       omega (arith, class-counted (column (layout f) o) (w .0) (suc s) (omega arith))
 
+  -- the form is that of the fields, and so are the levels of the observers
+  form-read : form-of (layout f) ≡ shape f
+  form-read = ap (λ (c : Counts). c .form) (read-counts f (proper-fits f p))
+
+  level-back : (o : ℕ) → o < shape f .observers → observer (layout f) o ≡ level-in f o
+  level-back o l =
+      level-read (layout f) o (subst (λ (w : Form). o < w .observers) (sym form-read) l) ∙ level-agree _ f agree o l
+
+  counted : miscounted (layout f) ≡ false
+  counted =
+      let read = read-kind f (proper-fits f p) in
+      let first = read-lead f (proper-fits f p) in
+      ⊎-elim
+      (λ e. no-count (layout f) (λ q. omega arith))
+      (λ w.
+      last-count-test (layout f) (read ∙ w .kind-is) (omega (arith, w .least))
+      ∙ le-ltb max-observers (lead (layout f)) (omega (arith, w .most)))
+      (p .described)
+
+  well-listed : mislisted (layout f) ≡ false
+  unfolding mislisted observer-falls
+  well-listed =
+      or-then _ _ counted
+      ∙ any-fails _ _
+      (λ o l.
+      not-falling (observer (layout f)) (shape f .observers)
+      (λ i h. rw (level-back i (omega arith), level-back (suc i) h) (p .observers-rise i h)) o
+      (subst (λ (w : Form). o < w .observers) form-read l))
+
   frame-clear : NoneOf frame-conditions (layout f)
-  frame-clear = search (long-enough, length-right, kind-right, in-range, size-right)
+  frame-clear = search (long-enough, length-right, kind-right, in-range, size-right, well-listed)
 
   numbered : misnumbered (layout f) ≡ false
   unfolding misnumbered misnumbered-at unnumbered skips-at
@@ -157,20 +192,20 @@ module _ (f : Fields) (p : Proper f) where
       (λ o k.
       let n : states (layout f) ≡ f .table .states = agree .tables .counts in
       let has : o < form-of (layout f) .columns = level-inside _ o (framed _ frame-clear) k .1 in
-      let here = subst (λ (c : Counts). o < c .form .columns) (read-counts f (proper-fits f p)) has in
+      let here = subst (λ (w : Form). o < w .columns) form-read has in
       let size = column-size _ o (framed _ frame-clear) has in
       any-fails _ _ (λ s l. le-ltb _ _ (class-step o s here (omega arith))))
 
   rising : (i : ℕ) → i < events (layout f) → falls-at (layout f) i ≡ false
   unfolding falls-at
-  rising zero l = refl
-  rising (suc i) l =
+  rising =
       let m : events (layout f) ≡ f .table .events = agree .tables .event-counts in
+      not-falling (identifier (layout f)) (events (layout f))
+      (λ i l.
       let here : identifier (layout f) i ≡ f .table .identifier i = agree .tables .identifiers i (omega arith) in
       let next : identifier (layout f) (suc i)
       ≡ f .table .identifier (suc i) = agree .tables .identifiers (suc i) (omega arith) in
-      lt-leb (identifier (layout f) (suc i)) (identifier (layout f) i)
-      (omega (arith, p .identifiers-rise i (omega arith)))
+      omega (arith, p .identifiers-rise i (omega arith)))
 
   known : (i : ℕ) → i < events (layout f) → unknown-at (layout f) i ≡ false
   unfolding unknown-at
@@ -189,8 +224,8 @@ module _ (f : Fields) (p : Proper f) where
       or-then _ _
       (any-fails _ _
       (λ o l.
-      let here = subst (λ (c : Counts). o < c .form .observers) (read-counts f (proper-fits f p)) l in
-      ap mislabelled (level-read (layout f) o l ∙ level-agree _ f agree o here) ∙ p .observers-labelled o here))
+      let here = subst (λ (w : Form). o < w .observers) form-read l in
+      ap mislabelled (level-back o here) ∙ p .observers-labelled o here))
       ∙ any-fails _ _
       (λ i l.
       let m : events (layout f) ≡ f .table .events = agree .tables .event-counts in

@@ -20,14 +20,14 @@ use Rattle.part.specs.Record.{observers, observer, states, events, form-of, col
 use Rattle.part.specs.Record.{level, row}
 use Rattle.part.specs.Frame.{Framed}
 use Rattle.screening.specs.Rejections.{Accepted, misnumbered, misnumbered-at, unnumbered, skips-at, misordered, misordered-at}
-use Rattle.screening.specs.Rejections.{falls-at, unknown-at, mislabelled-part, mislabelled-observer, mislabelled-at, stray-bit}
+use Rattle.screening.specs.Rejections.{observer-falls, falls-at, unknown-at, mislabelled-part, mislabelled-observer, mislabelled-at, stray-bit}
 use Rattle.screening.specs.Rejections.{row-strays, strays-at}
 use Rattle.screening.specs.MachineFacts.{start-below}
 use Rattle.screening.specs.Theorems.{Ranges}
 use Rattle.screening.proofs.Accepted.{in-frame, not-misnumbered, not-misordered, not-mislabelled, not-stray}
-use Rattle.part.proofs.Fields.{level-inside, column-size}
-use Rattle.screening.proofs.Rejections.{framed}
-use Rattle.part.proofs.Rising.{Rises, rises}
+use Rattle.part.proofs.Fields.{own-columns, level-inside, column-size}
+use Rattle.screening.proofs.Rejections.{framed, observer-above, rises-unless}
+use Rattle.part.proofs.Rising.{Rises}
 
 -- ---- the number of classes so far
 
@@ -92,13 +92,17 @@ module _ (b : List ℕ) (a : Accepted b) where
   identifiers-rise : Rises (identifier b) (events b)
   unfolding misordered-at falls-at
   identifiers-rise =
-      rises (identifier b) (events b) (λ i h. leb-false _ _ (or-left _ (unknown-at b (suc i)) (in-place (suc i) h)))
+      rises-unless (identifier b) (events b) (λ i h. or-left _ (unknown-at b i) (in-place i h))
 
   kinds : (i : ℕ) → i < events b → event-kind b i ≤ max-event-kind
   unfolding misordered-at unknown-at
   kinds i h = ltb-false _ _ (or-right (falls-at b i) _ (in-place i h))
 
   -- ---- the levels
+
+  observers-rise : Rises (observer b) (observers b)
+  unfolding observer-falls
+  observers-rise = rises-unless (observer b) (observers b) (observer-above b (in-frame b a))
 
   pub observer-labelled : (o : ℕ) → o < observers b → mislabelled (observer b o) ≡ false
   unfolding mislabelled-part mislabelled-observer
@@ -136,6 +140,8 @@ ranges b a = record {
   most-events = frame b a .few .most-events;
   whole = frame b a .whole;
   some-observer = frame b a .some-observer;
+  most-observers = omega (arith, own-columns b, frame b a .narrow .columns);
+  observers-rise = observers-rise b a;
   class-below = λ o s l h. omega (arith, class-step b a o s l h, classes-few b a o s l (omega arith));
   class-first = λ o l. omega (arith, class-step b a o 0 l (frame b a .one-state), classes-few b a o 0 l (omega arith));
   class-next = λ o s l h.

@@ -1,11 +1,11 @@
--- Records on which the rejections are computed: P and Z are accepted, and each damaged record has its number. Some break
+-- Records on which the rejections are computed: P, Z and a record of kind 2 are accepted, and each damaged record has its number. Some break
 -- two conditions, so that the order counts; some stand at a limit.
-use Prim.Native.Nat.{ℕ}
+use Prim.Native.Nat.{ℕ, _+_}
 use mathlib.Core.Path.{_≡_, refl}
 use mathlib.Core.Bool.{Bool, true, _&&_}
 use mathlib.Core.List.{List, [], _∷_, _++_}
 use lib.Dec.{T, eqb}
-use lib.ListN.{take, set, getD}
+use lib.ListN.{length, take, set, replicate}
 use Rattle.bounded.specs.Search.{first, or-else, each}
 use Rattle.machine.specs.Machine.{input, output, Event, absent, event}
 use Rattle.words.specs.LittleEndian.{number, digits}
@@ -30,6 +30,11 @@ unfolding rejected-with
 all-said [] = true
 all-said (l ∷ ls) = eqb (rejected-with (l .bytes)) (l .number) && all-said ls
 
+-- A record of kind 2 with one state and no event, for observers of these levels.
+abbrev listing : List ℕ → List ℕ
+listing levels =
+    digits 4 (4 + length levels + length levels) ++ 2 ∷ 0 ∷ length levels ∷ 1 ∷ 0 ∷ 0 ∷ [] ++ levels ++ replicate (length levels) 0
+
 abbrev table : List Line
 table =
     -- accepted; 1 to 3
@@ -40,8 +45,9 @@ table =
     ∷ take 51 P is 2
     ∷ (P ++ 0 ∷ []) is 2
     ∷ set (set P 0 0x2F) 4 2 is 2
-    ∷ set P 4 2 is 3
-    ∷ two-observers is 3
+    ∷ two-observers is 0
+    ∷ set P 4 0 is 3
+    ∷ set P 4 3 is 3
     ∷ set (set P 5 1) 7 0 is 3
     -- 4: no body, n = 0, n = 65 though 5 holds too, the start at n, m = 33; the limits themselves; 5
     ∷ (0 ∷ 0 ∷ 0 ∷ 0 ∷ 1 ∷ 0 ∷ []) is 4
@@ -55,10 +61,32 @@ table =
     ∷ resetting 1 32 is 0
     ∷ set P 7 3 is 5
     ∷ set (set P 7 3) 10 1 is 5
+    -- 20: a count of 0, 1 or 5, but not of 2 or 4; levels that are equal or fall, at the second, third and fourth place. They rise as bytes,
+    -- whether one is below the other or not. 5 comes before it and goes by the count as it stands.
+    ∷ listing [] is 20
+    ∷ listing (0x00 ∷ []) is 20
+    ∷ listing (0x00 ∷ 0x40 ∷ []) is 0
+    ∷ listing (0x00 ∷ 0x40 ∷ 0x80 ∷ 0xC0 ∷ []) is 0
+    ∷ listing (0x00 ∷ 0x40 ∷ 0x80 ∷ 0xC0 ∷ 0xC1 ∷ []) is 20
+    ∷ listing (0x40 ∷ 0x40 ∷ []) is 20
+    ∷ listing (0x40 ∷ 0x00 ∷ []) is 20
+    ∷ listing (0x00 ∷ 0x80 ∷ 0x40 ∷ []) is 20
+    ∷ listing (0x00 ∷ 0x40 ∷ 0x80 ∷ 0x80 ∷ []) is 20
+    ∷ listing (0x41 ∷ 0x42 ∷ []) is 0
+    ∷ set P 4 2 is 5
+    ∷ set two-observers 6 1 is 5
+    ∷ set two-observers 6 3 is 5
     -- 6: state 0 not of class 0, a class skipped; 7: equal and falling identifiers, a kind of 3
     ∷ set P 10 1 is 6
     ∷ set P 11 2 is 6
     ∷ set P 11 1 is 0
+    -- 6 in each column, each numbered by itself: the classes of the first do not count for the second; 20 before it
+    ∷ set two-observers 12 1 is 6
+    ∷ set two-observers 13 2 is 6
+    ∷ set two-observers 14 1 is 6
+    ∷ set two-observers 15 2 is 6
+    ∷ set two-observers 15 1 is 0
+    ∷ set (set two-observers 11 0x00) 12 1 is 20
     ∷ set P 16 1 is 7
     ∷ set P 12 3 is 7
     ∷ set P 14 3 is 7
@@ -69,6 +97,10 @@ table =
     ∷ set P 6 0x41 is 0
     ∷ set P 19 0x41 is 0
     ∷ set P 15 0x00 is 0
+    -- each listed observer; 20 before it
+    ∷ listing (0x01 ∷ 0x40 ∷ []) is 16
+    ∷ listing (0x00 ∷ 0x01 ∷ []) is 16
+    ∷ listing (0x02 ∷ 0x01 ∷ []) is 20
     -- 8: a bit at n; each before the next: 6, 7, 16, 8
     ∷ set P 20 4 is 8
     ∷ set P 51 0x80 is 8

@@ -5,16 +5,18 @@ use mathlib.Core.List.{List}
 use Rattle.part.specs.Record.{observers, events}
 use Rattle.screening.specs.declared.rejection.Fault.{Fault}
 use Rattle.screening.specs.declared.rejection.Fault.the-variants.{
+  FallingObserver,
   Misnumbered,
   MislabelledObserver,
   Misordered,
   Mislabelled,
   StrayBit,
 }
-use Rattle.screening.specs.Rejections.{misnumbered-at, mislabelled-observer, misordered-at, mislabelled-at, row-strays}
+use Rattle.screening.specs.Rejections.{observer-falls, misnumbered-at, mislabelled-observer, misordered-at, mislabelled-at, row-strays}
 
 -- How many there are of what a condition asks about: observers or events.
 abbrev pub candidates : Fault → List ℕ → ℕ
+candidates FallingObserver = observers
 candidates Misnumbered = observers
 candidates MislabelledObserver = observers
 candidates Misordered = events
@@ -23,6 +25,7 @@ candidates StrayBit = events
 
 -- Observer i, or the event at place i, has the fault that a condition asks about.
 abbrev pub has-fault : Fault → List ℕ → ℕ → Bool
+has-fault FallingObserver = observer-falls
 has-fault Misnumbered = misnumbered-at
 has-fault MislabelledObserver = mislabelled-observer
 has-fault Misordered = misordered-at

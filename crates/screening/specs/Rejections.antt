@@ -1,7 +1,7 @@
--- The rejections of a record (document 01, "Refusals out of the input", 1 to 8; document 02, d, 16).
+-- The rejections of a record (document 01, "Refusals out of the input", 1 to 8; document 02, d, 16, and k, 20).
 use Prim.Native.Nat.{ℕ, zero, suc, _-_}
 use mathlib.Core.Path.{_≡_}
-use mathlib.Core.Bool.{Bool, true, false, not, _||_}
+use mathlib.Core.Bool.{Bool, true, false, not, _||_, _&&_}
 use mathlib.Core.List.{List, [], _∷_, _++_}
 use mathlib.Core.Option.{Option, none, some}
 use lib.ListN.{length}
@@ -10,8 +10,8 @@ use Rattle.bounded.specs.Search.{any}
 use Rattle.words.specs.Sets.{exceeds}
 use Rattle.words.specs.LittleEndian.{byte}
 use Rattle.level.specs.Level.{mislabelled}
-use Rattle.part.specs.Format.{max-states, max-events, part-kind, max-event-kind, header, body-size}
-use Rattle.part.specs.Record.{body-length, kind, observer, states, start, events, counts, observers, column, classes-below, identifier, event-kind, level, row}
+use Rattle.part.specs.Format.{max-states, max-events, single-kind, several-kind, least-listed, max-observers, max-event-kind, header, body-size}
+use Rattle.part.specs.Record.{body-length, kind, lead, observer, states, start, events, counts, observers, column, classes-below, identifier, event-kind, level, row}
 
 -- 1: fewer than six bytes.
 unfoldable pub too-short : List ℕ → Bool
@@ -21,9 +21,9 @@ too-short b = ltb (length b) header
 unfoldable pub wrong-length : List ℕ → Bool
 wrong-length b = not (eqb (body-length b) (length b - header))
 
--- 3: the kind is not 1.
+-- 3: the kind is neither 1 nor 2.
 unfoldable pub wrong-kind : List ℕ → Bool
-wrong-kind b = not (eqb (kind b) part-kind)
+wrong-kind b = not (eqb (kind b) single-kind || eqb (kind b) several-kind)
 
 -- 4: the body is under four bytes, or n, the start or m is outside its range.
 unfoldable pub out-of-range : List ℕ → Bool
@@ -37,6 +37,23 @@ out-of-range b =
 -- 5: L is not what kind and counts say.
 unfoldable pub wrong-size : List ℕ → Bool
 wrong-size b = not (eqb (body-length b) (body-size (counts b)))
+
+-- In a sequence of numbers the one at place i is not above the one before it.
+unfoldable pub falls : (ℕ → ℕ) → ℕ → Bool
+falls f zero = false
+falls f (suc i) = leb (f (suc i)) (f i)
+
+-- Kind 2 has fewer than two observers, or more than four.
+unfoldable pub miscounted : List ℕ → Bool
+miscounted b = eqb (kind b) several-kind && (ltb (lead b) least-listed || ltb max-observers (lead b))
+
+-- The level of observer o is not above the one before it.
+unfoldable pub observer-falls : List ℕ → ℕ → Bool
+observer-falls b o = falls (observer b) o
+
+-- 20: the count of the observers is outside its range, or their levels do not rise.
+unfoldable pub mislisted : List ℕ → Bool
+mislisted b = miscounted b || any (observers b) (observer-falls b)
 
 -- In a column the class of state s is more than one above the largest before it (above 0 for state 0).
 unfoldable pub skips-at : List ℕ → ℕ → Bool
@@ -55,8 +72,7 @@ misnumbered b = any (observers b) (misnumbered-at b)
 
 -- The identifier at place i is not above the one before it.
 unfoldable pub falls-at : List ℕ → ℕ → Bool
-falls-at b zero = false
-falls-at b (suc i) = leb (identifier b (suc i)) (identifier b i)
+falls-at b i = falls (identifier b) i
 
 -- The kind of the event at place i is above 2.
 unfoldable pub unknown-at : List ℕ → ℕ → Bool
@@ -106,6 +122,7 @@ frame-conditions =
     ∷ record { number = 3; holds = wrong-kind }
     ∷ record { number = 4; holds = out-of-range }
     ∷ record { number = 5; holds = wrong-size }
+    ∷ record { number = 20; holds = mislisted }
     ∷ []
 
 -- .. then those of the content.

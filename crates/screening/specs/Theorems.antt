@@ -9,7 +9,7 @@ use lib.Dec.{T}
 use Rattle.words.specs.Sets.{bit}
 use Rattle.words.specs.LittleEndian.{Bytes}
 use Rattle.level.specs.Level.{Mislabelled}
-use Rattle.part.specs.Format.{max-states, max-events, max-event-kind, record-size}
+use Rattle.part.specs.Format.{max-states, max-events, max-observers, max-event-kind, record-size}
 use Rattle.part.specs.Record.{observers, observer, states, start, events, counts, class, identifier, event-kind, level, row}
 use Rattle.screening.specs.Rejections.{Accepted}
 use Rattle.part.specs.Events.{place, event-of, Leads}
@@ -21,7 +21,10 @@ pub record InRange (b : List ℕ) : Type 0 where
   pub start-is-state : start b < states b
   pub most-events : events b ≤ max-events
   pub whole : length b ≡ record-size (counts b)
+  -- one to four observers, whose levels rise
   pub some-observer : 1 ≤ observers b
+  pub most-observers : observers b ≤ max-observers
+  pub observers-rise : (o p : ℕ) → o < p → p < observers b → observer b o < observer b p
   -- for each observer classes below n, numbered by first appearance: state 0 has class 0, each later one is at most one above some class before it
   pub class-below : (o s : ℕ) → o < observers b → s < states b → class b o s < states b
   pub class-first : (o : ℕ) → o < observers b → class b o 0 ≡ 0

@@ -7,6 +7,7 @@ pub enum Rejection {
     WrongKind,
     OutOfRange,
     WrongSize,
+    Mislisted,
     Misnumbered,
     Misordered,
     Mislabelled,

@@ -1,12 +1,14 @@
 // The rejections of a record, in order (specs/Rejections.antt): one function for each condition, and two cascades.
 ghost use mathlib.Core.Path.{_≡_};
-ghost use Prim.Native.Nat.{_+_, _<_};
+ghost use Prim.Native.Nat.{_+_, _<_, _≤_};
+ghost use lib.ListN.{length};
 ghost use mathlib.Core.Bool.{false};
-ghost use Rattle.part.specs.Record.{states, events};
+ghost use Rattle.part.specs.Format.{lists-at};
+ghost use Rattle.part.specs.Record.{observers, states, events};
 ghost use Rattle.bounded.specs.Search.{any};
 ghost use Rattle.part.specs.Frame.{Framed};
 ghost use Rattle.screening.specs.Faults.{candidates, has-fault};
-ghost use Rattle.screening.specs.Rejections.{too-short, wrong-length, wrong-kind, out-of-range, wrong-size, unnumbered, falls-at, misordered-at, mislabelled-part, row-strays, stray-bit, frame-conditions, content-conditions, first-of, rejection};
+ghost use Rattle.screening.specs.Rejections.{too-short, wrong-length, wrong-kind, out-of-range, wrong-size, miscounted, observer-falls, mislisted, unnumbered, falls-at, misordered-at, mislabelled-part, row-strays, stray-bit, frame-conditions, content-conditions, first-of, rejection};
 ghost use Rattle.screening.specs.Answers.{number-of, rejection-of};
 use crate::answer::Rejection;
 use crate::answer::Screening;
@@ -17,8 +19,9 @@ use part::classes_with;
 use words::le;
 use words::set;
 
-// What 6 and 16 ask of one observer, and 7, 16 and 8 of one event.
+// What 20, 6 and 16 ask of one observer, and 7, 16 and 8 of one event.
 enum Fault {
+    FallingObserver,
     Misnumbered,
     MislabelledObserver,
     Misordered,
@@ -38,6 +41,7 @@ impl Rejection {
             Rejection::WrongKind => 3,
             Rejection::OutOfRange => 4,
             Rejection::WrongSize => 5,
+            Rejection::Mislisted => 20,
             Rejection::Misnumbered => 6,
             Rejection::Misordered => 7,
             Rejection::Mislabelled => 16,
@@ -63,7 +67,11 @@ fn wrong_kind(b: &[u8]) -> bool
     requires { ⌜ too-short (now b) ≡ false ⌝ }
     ensures { λ r. ⌜ r ≡ wrong-kind (now (b .entry)) ⌝ }
 {
-    Part::kind(b) != Part::KIND
+    let kind = Part::kind(b);
+    if kind == Part::SINGLE {
+        return false;
+    }
+    kind != Part::SEVERAL
 }
 
 fn out_of_range(b: &[u8]) -> bool
@@ -100,6 +108,33 @@ fn wrong_size(b: &[u8]) -> bool
         events: Part::events(b),
     };
     Part::body_length(b) != counts.body_size()
+}
+
+// The count of the observers is outside its range.
+fn miscounted(b: &[u8]) -> bool
+    requires { ⌜ lists-at ≤ length (now b) ⌝ }
+    ensures { λ r. ⌜ r ≡ miscounted (now (b .entry)) ⌝ }
+{
+    if Part::kind(b) != Part::SEVERAL {
+        return false;
+    }
+    let count = Part::lead(b);
+    if count < Part::LEAST_LISTED {
+        return true;
+    }
+    Part::OBSERVERS < count
+}
+
+// The level of observer o is not above the one before it.
+fn observer_falls(b: &[u8], o: usize) -> bool
+    requires { ⌜ Framed (now b) ⌝ }
+    requires { ⌜ o < observers (now b) ⌝ }
+    ensures { λ r. ⌜ r ≡ observer-falls (now (b .entry)) o ⌝ }
+{
+    if o == 0 {
+        return false;
+    }
+    Part::observer(b, o) <= Part::observer(b, o - 1)
 }
 
 // The classes of a column are not numbered by first appearance.
@@ -166,6 +201,7 @@ fn has_fault(b: &[u8], i: usize, fault: Fault) -> bool
     ensures { λ r. ⌜ r ≡ has-fault fault (now (b .entry)) i ⌝ }
 {
     match fault {
+        Fault::FallingObserver => observer_falls(b, i),
         Fault::Misnumbered => unnumbered(Part::column(b, i)),
         Fault::MislabelledObserver => Level::is_mislabelled(Part::observer(b, i)),
         Fault::Misordered => misordered_at(b, i),
@@ -190,6 +226,20 @@ fn some_fault(b: &[u8], count: usize, fault: Fault) -> bool
     false
 }
 
+fn mislisted(b: &[u8]) -> bool
+    requires { ⌜ too-short (now b) ≡ false ⌝ }
+    requires { ⌜ wrong-length (now b) ≡ false ⌝ }
+    requires { ⌜ wrong-kind (now b) ≡ false ⌝ }
+    requires { ⌜ out-of-range (now b) ≡ false ⌝ }
+    requires { ⌜ wrong-size (now b) ≡ false ⌝ }
+    ensures { λ r. ⌜ r ≡ mislisted (now (b .entry)) ⌝ }
+{
+    if miscounted(b) {
+        return true;
+    }
+    some_fault(b, Part::observers(b), Fault::FallingObserver)
+}
+
 fn mislabelled(b: &[u8]) -> bool
     requires { ⌜ Framed (now b) ⌝ }
     ensures { λ r. ⌜ r ≡ mislabelled-part (now (b .entry)) ⌝ }
@@ -211,7 +261,7 @@ fn stray_bit(b: &[u8]) -> bool
     some_fault(b, Part::events(b), Fault::StrayBit)
 }
 
-// The rejections 1 to 5: header, counts and size.
+// The rejections 1 to 5 and 20: header, counts, size and the list of observers.
 fn screen_frame(b: &[u8]) -> Screening
     ensures { λ r. ⌜ rejection-of r ≡ first-of frame-conditions (now (b .entry)) ⌝ }
 {
@@ -229,6 +279,9 @@ fn screen_frame(b: &[u8]) -> Screening
     }
     if wrong_size(b) {
         return Screening::Rejected(Rejection::WrongSize);
+    }
+    if mislisted(b) {
+        return Screening::Rejected(Rejection::Mislisted);
     }
     Screening::Accepted
 }

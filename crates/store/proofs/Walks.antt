@@ -1,19 +1,21 @@
 -- A walk finds exactly the accepted records that stand one behind the other before an end record.
 use Prim.Native.Nat.{ℕ, _+_, _-_}
-use mathlib.Core.Path.{_≡_, ap, _∙_}
+use mathlib.Core.Path.{_≡_, sym, ap, _∙_}
+use mathlib.Core.Bool.{false}
+use mathlib.Core.Logic.{⊎-elim}
 use mathlib.Core.List.{List, [], _∷_, _++_, flatten, append-assoc}
 use mathlib.Core.Option.{some, Option·map}
 use native.Mathlib.Omega.{arith}
 use lib.ListN.{length, length-append}
 use lib.Seq.{take-append-seam, drop-append-seam}
-use borrow.Author.Tests.{le-ltb, eqb-true, not-false}
+use lib.Dec.{eqb}
+use borrow.Author.Tests.{le-ltb, ne-eqb}
 use Rattle.words.specs.LittleEndian.{number}
 use Rattle.words.proofs.LittleEndian.{number-inside}
-use Rattle.part.specs.Format.{part-kind}
 use Rattle.part.specs.Record.{body-length, kind}
-use Rattle.screening.specs.Rejections.{wrong-kind, Accepted}
+use Rattle.screening.specs.Rejections.{Accepted}
 use Rattle.screening.proofs.Accepted.{in-frame, not-too-short, not-wrong-length, not-wrong-kind}
-use Rattle.screening.proofs.Rejections.{long, rest}
+use Rattle.screening.proofs.Rejections.{long, rest, kind-is}
 use Rattle.store.specs.Walk.{end-record, record-of, front, walk}
 use Rattle.store.specs.Calls.{end-bytes}
 use Rattle.store.proofs.Each.{Each}
@@ -26,14 +28,17 @@ unfolding front end-bytes kind body-length number
 end-front more = rw (le-ltb (length (end-bytes ++ more)) 6 (omega arith))
 
 pub front-accepted : (r more : List ℕ) → Accepted r → front (r ++ more) ≡ record-of (length r)
-unfolding front kind body-length wrong-kind
+unfolding front kind body-length
 front-accepted r more accepted =
     let a = in-frame r accepted in
     let six = long r (not-too-short r a) in
     let body : number 4 (r ++ more) 0 ≡ length r - 6 =
     number-inside 4 r more 0 (omega arith) ∙ rest r (not-wrong-length r a) in
-    let is-part : number 2 (r ++ more) 4 ≡ part-kind =
-    number-inside 2 r more 4 (omega arith) ∙ eqb-true _ _ (not-false _ (not-wrong-kind r a)) in
+    let same-kind : number 2 (r ++ more) 4 ≡ kind r = number-inside 2 r more 4 (omega arith) in
+    let is-part : eqb (number 2 (r ++ more) 4) 0 ≡ false =
+    ne-eqb (number 2 (r ++ more) 4) 0 (λ z.
+    let none : kind r ≡ 0 = sym same-kind ∙ z in
+    ⊎-elim (λ e. omega arith) (λ e. omega arith) (kind-is r (not-wrong-kind r a))) in
     let all = length-append r more in
     rw (
       le-ltb (length (r ++ more)) 6 (omega arith),

@@ -5,6 +5,7 @@ use mathlib.Core.List.{List, [], _∷_, _++_, flatten}
 use lib.ListN.{length}
 use Rattle.machine.specs.Noninterference.{Noninterfering}
 use Rattle.words.specs.LittleEndian.{Bytes}
+use Rattle.part.specs.Record.{observers}
 use Rattle.screening.specs.Rejections.{Accepted}
 use Rattle.screening.specs.Machine.{machine, observation}
 use Rattle.store.specs.Answer.{Answer, gives, refused}
@@ -41,11 +42,11 @@ pub record Begins (xs ys : List ℕ) : Type 0 where
   pub rest : List ℕ
   pub so : xs ≡ ys ++ rest
 
--- A part hides its high inputs: every trace of it with k low events and every k + 1 lists of its high inputs has a
--- trace with the same low events and exactly those lists in its gaps.
+-- A part hides its high inputs from each of its observers: every trace of it with k low events and every k + 1 lists
+-- of its high inputs has a trace with the same low events and exactly those lists in its gaps.
 pub record Hides (b : List ℕ) : Type 0 where
   pub accepted : Accepted b
-  pub hides : Noninterfering (machine b accepted) (observation b 0)
+  pub hides : (o : ℕ) → o < observers b → Noninterfering (machine b accepted) (observation b o)
 
 -- Neither 12 nor 14.
 pub record Foreseen (a : Answer) : Type 0 where

@@ -1,7 +1,8 @@
 // Little-endian numbers in byte slices (specs/LittleEndian.antt).
 ghost use mathlib.Core.Path.{_≡_};
 ghost use Prim.Native.Nat.{_+_, _<_, _≤_, _^_};
-ghost use lib.ListN.{length};
+ghost use lib.ListN.{length, getD};
+ghost use Rattle.bounded.specs.Search.{each};
 ghost use Rattle.words.specs.LittleEndian.{byte, number, digits};
 ghost use Rattle.words.specs.Laid.{over};
 
@@ -61,4 +62,16 @@ pub fn put64(out: &mut [u8], at: usize, v: u64)
 {
     put32(out, at, v);
     put32(out, at + 4, v / 4294967296);
+}
+
+// Eight numbers one behind the other.
+pub fn put_words(out: &mut [u8], at: usize, numbers: &[u64; 8])
+    requires { ⌜ at + 64 ≤ length (now out) ⌝ }
+    ensures { λ _. ⌜ now (out .exit) ≡ over (now (out .entry)) at (each 8 (λ i. digits 8 (getD (now (numbers .entry)) i 0))) ⌝ }
+{
+    let mut i = 0;
+    while i < 8 {
+        put64(out, at + i * 8, numbers[i]);
+        i += 1;
+    }
 }

@@ -70,7 +70,6 @@ fn settings(caption: &str) -> Vec<String> {
 #[cfg(test)]
 mod tests {
     use super::*;
-    use crate::kinds::SEVERAL;
     use crate::random::{self, Rng};
     use crate::{reader, verdict};
 
@@ -95,7 +94,7 @@ event 3 internal rank 0 compartments none
     }
 
     fn drawn_for(text: &str, asked: Option<Level>, line: Option<&str>) -> String {
-        let table = reader::read_kinds(text.as_bytes(), SEVERAL).unwrap();
+        let table = reader::read(text.as_bytes()).unwrap();
         let given = line.map(|line| verdict::read(line).unwrap());
         let concerned = given.and_then(|given| verdict::fits(&table.part, &given).unwrap());
         draw(&table, shown(&table.part, asked, concerned).unwrap(), "t & u.table", given.as_ref())
@@ -175,7 +174,8 @@ event 3 internal rank 0 compartments none
 
     #[test]
     fn a_break_of_rule_4_by_an_internal_event() {
-        let dot = drawn(TABLE, Some("rule 4 event 3 from 1 to 2 other 0"));
+        let only_b = TABLE.replace("  a -> b\n  b -> c\n", "  b -> c\n");
+        let dot = drawn(&only_b, Some("rule 4 event 3 from 1 to 2 other 0"));
         assert!(line(&dot, "s1 -> s2 [").contains("penwidth=\"3.5\""));
         assert!(line(&dot, "missing [").contains("✗ no answer to τ3"));
         line(&dot, "s0 -> missing [");
@@ -267,7 +267,7 @@ event 3 internal rank 0 compartments none
 
     #[test]
     fn which_observer_is_shown() {
-        let part = reader::read_kinds(watched().as_bytes(), SEVERAL).unwrap().part;
+        let part = reader::read(watched().as_bytes()).unwrap().part;
         let [first, second, third] = part.observers.as_slice() else { panic!() };
         assert_eq!(shown(&part, None, None), Ok(first));
         assert_eq!(shown(&part, None, Some(second)), Ok(second));

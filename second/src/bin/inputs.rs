@@ -23,32 +23,35 @@ fn write(folder: &Path, name: &str, bytes: &[u8]) {
     }
 }
 
-/// One record of each kind.
+fn damaged(rng: &mut Rng, passing: &[u8]) -> Vec<u8> {
+    let mut damaged = passing.to_vec();
+    let refusal = rng.pick(&record::ORDER);
+    make::damage(rng, &mut damaged, refusal);
+    damaged
+}
+
+/// One record of each sort.
 fn records(rng: &mut Rng) -> Vec<(&'static str, Vec<u8>)> {
     let (a, b) = make::joinable_pair(rng);
     let passing = record::write(&make::any_passing(rng));
-    let mut damaged = passing.clone();
-    let refusal = rng.pick(&record::order());
-    make::damage(rng, &mut damaged, refusal);
-    let mut made = vec![
+    let (list_a, list_b) = make::joinable_lists(rng);
+    let list = record::write(&make::any_list(rng));
+    vec![
         ("joins-a", record::write(&a)),
         ("joins-b", record::write(&b)),
         ("full", record::write(&make::full(rng, 64, 32))),
         ("quiet", record::write(&make::passing_with_quiet_steps(rng))),
         ("changed", record::write(&make::damaged_out_of_reach(rng))),
-        ("damaged", damaged),
+        ("damaged", damaged(rng, &passing)),
         ("mangled", make::mangled(rng, &passing)),
         ("random", make::random_bytes(rng)),
         ("empty", Vec::new()),
-    ];
-    if record::is_described(2) {
-        let (a, b) = make::joinable_lists(rng);
-        made.push(("list-a", record::write(&a)));
-        made.push(("list-b", record::write(&b)));
-        made.push(("list-broken", record::write(&make::breaking_list(rng))));
-        made.push(("list-full", record::write(&make::staying_list(rng, 64, 32, record::MOST_LISTED))));
-    }
-    made
+        ("list-a", record::write(&list_a)),
+        ("list-b", record::write(&list_b)),
+        ("list-broken", record::write(&make::breaking_list(rng))),
+        ("list-damaged", damaged(rng, &list)),
+        ("list-full", record::write(&make::staying_list(rng, 64, 32, record::MOST_LISTED))),
+    ]
 }
 
 fn main() {
@@ -66,12 +69,14 @@ fn main() {
     let folder = Path::new(&folder);
     let mut rng = Rng::new(seed);
     for i in 0..count {
-        for (kind, bytes) in records(&mut rng) {
-            write(folder, &format!("{:04}-{}.record", i, kind), &bytes);
+        for (name, bytes) in records(&mut rng) {
+            write(folder, &format!("{:04}-{}.record", i, name), &bytes);
         }
         let capacity = rng.range(0, 20_000);
         let script = make::session(&mut rng, capacity, 30);
         write(folder, &format!("{:04}.script", i), &script.bytes);
+        let lists = make::session_on_lists(&mut rng, capacity, 30);
+        write(folder, &format!("{:04}-list.script", i), &lists.bytes);
         let mut cut = script.bytes.clone();
         cut.truncate(rng.below(cut.len() + 1));
         write(folder, &format!("{:04}-cut.script", i), &cut);

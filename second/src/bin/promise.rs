@@ -10,11 +10,12 @@ use second::check;
 use second::examples;
 use second::join;
 use second::make::{self, Wanted};
-use second::record::{self, is_described, Part, View, MOST_LISTED};
+use second::record::{self, Part, View, MOST_LISTED};
 use second::rng::Rng;
 use second::traces::{self, Bounds, Counterexample};
 use second::wrong;
 use second::wrong_internal::{as_outputs, reading};
+use second::wrong_list;
 use std::process::exit;
 
 /// The search without a bound on lengths gives up beyond this many pairs of sets.
@@ -71,18 +72,13 @@ fn bounds_for(view: View) -> Bounds {
 /// The kinds of passing parts that are tried.
 const PREFIXES: [&str; 3] = ["part", "joined", "rack of three"];
 
-/// Those with several observers, for each of whom the promise is asked; none before such parts are described.
-fn prefixes_of_lists() -> &'static [&'static str] {
-    if is_described(2) {
-        &["part of several observers", "joined of several observers"]
-    } else {
-        &[]
-    }
-}
+/// Those with several observers, for each of whom the promise is asked.
+const PREFIXES_OF_LISTS: [&str; 3] =
+    ["part of several observers", "joined of several observers", "rack of three of several observers"];
 
 const MATCHING: &str = "matching traces checked step by step";
 const SHARED_LOW: &str = "joined: a shared low event in a matching trace";
-const OTHERS: &str = "passes for the first of several observers: counterexample found for another";
+const WITH_OTHER_LIST: &str = "joined with a part of another list, both passing: counterexample found";
 const WITH_BROKEN: &str = "joined with a part that breaks a rule, the other passing: counterexample found";
 
 /// Whether a part passes by some reading for its one observer.
@@ -95,6 +91,14 @@ const WRONG_READINGS: [(&str, Passes); 5] = [
     ("rank alone", wrong::passes_by_rank_alone),
     ("low internal events under no rule", |view| reading("all quiet, low ones under no rule").passes(&view)),
     ("internal events under no rule", |view| reading("all quiet, none under a rule").passes(&view)),
+];
+
+/// The readings of lists by which parts pass that do not keep the promise for each observer.
+const WRONG_READINGS_OF_LISTS: [&str; 4] = [
+    "the first observer alone",
+    "the last observer alone",
+    "one observer is enough",
+    "the first level with each column",
 ];
 
 /// The categories of passing parts with this prefix, each with its least number. The last one is document 01's reading,
@@ -125,19 +129,20 @@ fn misread_name(reading: &str) -> String {
     format!("passes if {}: counterexample found", reading)
 }
 
+fn misread_list_name(reading: &str) -> String {
+    format!("several observers, passes if {}: counterexample found", reading)
+}
+
 /// Every category with its least number.
 fn needs() -> Tally {
     let mut tally = Tally::new();
-    for (name, least) in PREFIXES.iter().chain(prefixes_of_lists()).flat_map(|prefix| kinds(prefix)) {
+    for (name, least) in PREFIXES.iter().chain(&PREFIXES_OF_LISTS).flat_map(|prefix| kinds(prefix)) {
         tally.need(&name, least);
     }
-    for prefix in prefixes_of_lists() {
+    for prefix in PREFIXES_OF_LISTS {
         for i in 1..=MOST_LISTED {
             tally.need(&observer_name(prefix, i), 200);
         }
-    }
-    if is_described(2) {
-        tally.need(OTHERS, 20);
     }
     tally.need("joined: a shared high event", 200);
     tally.need("joined: a shared low event", 200);
@@ -154,7 +159,11 @@ fn needs() -> Tally {
     for (reading, _) in WRONG_READINGS {
         tally.need(&misread_name(reading), 20);
     }
+    for reading in WRONG_READINGS_OF_LISTS {
+        tally.need(&misread_list_name(reading), 20);
+    }
     tally.need(WITH_BROKEN, 20);
+    tally.need(WITH_OTHER_LIST, 20);
     tally
 }
 
@@ -295,46 +304,83 @@ impl Run {
 
     /// Parts for several observers, alone and joined: the promise is kept for each of them.
     fn parts_of_lists(&mut self) {
-        for &prefix in prefixes_of_lists() {
-            for _ in 0..20_000 {
-                let lacks_observers = (1..=MOST_LISTED).any(|i| self.tally.lacks(&observer_name(prefix, i)));
-                if !self.lacks_kinds(prefix) && !lacks_observers {
-                    break;
-                }
-                let part = self.list_for(prefix);
-                if part.state_count() > 6 {
-                    continue;
-                }
-                for (i, view) in part.views().into_iter().enumerate() {
-                    self.must_keep(view, 5);
-                    self.count_kind(prefix, view);
-                    self.tally.count(&observer_name(prefix, i + 1));
+        let [alone, of_two, of_three] = PREFIXES_OF_LISTS;
+        for _ in 0..20_000 {
+            if !PREFIXES_OF_LISTS.into_iter().any(|prefix| self.lacks_lists(prefix)) {
+                break;
+            }
+            if self.lacks_lists(alone) {
+                let part = make::small_list(&mut self.rng);
+                self.must_keep_for_each(alone, &part);
+            }
+            if self.lacks_lists(of_two) || self.lacks_lists(of_three) {
+                let (a, b) = make::small_joinable_lists(&mut self.rng);
+                let first = joined(&a, &b).unwrap();
+                self.must_keep_for_each(of_two, &first);
+                let third = make::third_list_for(&mut self.rng, &first);
+                if let Some(rack) = joined(&first, &third) {
+                    self.must_keep_for_each(of_three, &rack);
                 }
             }
         }
     }
 
-    /// Why a part must pass for each of its observers.
-    fn first_observer_alone(&mut self) {
+    fn lacks_lists(&self, prefix: &str) -> bool {
+        self.lacks_kinds(prefix) || (1..=MOST_LISTED).any(|i| self.tally.lacks(&observer_name(prefix, i)))
+    }
+
+    /// Larger parts would take too long.
+    fn must_keep_for_each(&mut self, prefix: &str, part: &Part) {
+        if part.state_count() > 6 {
+            return;
+        }
+        for (i, view) in part.views().into_iter().enumerate() {
+            self.must_keep(view, 5);
+            self.count_kind(prefix, view);
+            self.tally.count(&observer_name(prefix, i + 1));
+        }
+    }
+
+    /// Parts for several observers that a wrong reading would pass: why they must pass for each of them.
+    fn misread_lists(&mut self) {
         for _ in 0..20_000 {
-            if !self.tally.lacks(OTHERS) {
+            if !WRONG_READINGS_OF_LISTS.iter().any(|reading| self.tally.lacks(&misread_list_name(reading))) {
                 break;
             }
             let part = make::small_list(&mut self.rng);
-            let part = make::changed_steps(&mut self.rng, &part);
-            let passes_for_first = check::break_for(part.view(0)).is_none();
-            if passes_for_first && part.views().into_iter().skip(1).any(breaks_promise) {
-                self.tally.count(OTHERS);
+            let changed = make::changed_steps(&mut self.rng, &part);
+            self.misread_list(&changed);
+        }
+    }
+
+    fn misread_list(&mut self, part: &Part) {
+        if check::passes(part) {
+            return;
+        }
+        for reading in WRONG_READINGS_OF_LISTS {
+            let name = misread_list_name(reading);
+            let passes = wrong_list::reading(reading).passes(part);
+            if self.tally.lacks(&name) && passes && part.views().into_iter().any(breaks_promise) {
+                self.tally.count(&name);
             }
         }
     }
 
-    fn list_for(&mut self, prefix: &str) -> Part {
-        if prefix == "part of several observers" {
-            return make::small_list(&mut self.rng);
+    /// Z for another list, joined as if the lists were equal: why 9 must come.
+    fn joined_with_other_lists(&mut self) {
+        for _ in 0..20_000 {
+            if !self.tally.lacks(WITH_OTHER_LIST) {
+                break;
+            }
+            let part = make::small_list(&mut self.rng);
+            let mut levels = part.levels();
+            levels[self.rng.below(part.observers.len())] = make::any_level(&mut self.rng);
+            levels.sort();
+            let z = record::read(&examples::z_for(&levels));
+            if z.is_ok_and(|z| join::joined_part(&z, &part).views().into_iter().any(breaks_promise)) {
+                self.tally.count(WITH_OTHER_LIST);
+            }
         }
-        let (a, b) = make::small_joinable_lists(&mut self.rng);
-        joined(&a, &b).unwrap()
     }
 
     /// Counts a joined part by its shared events.
@@ -494,7 +540,8 @@ fn main() {
     run.misread_parts();
     run.joined_with_broken_parts();
     run.parts_of_lists();
-    run.first_observer_alone();
+    run.misread_lists();
+    run.joined_with_other_lists();
 
     run.tally.print();
     println!("choices of lists tried on passing parts: {}", run.choices);

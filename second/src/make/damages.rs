@@ -2,10 +2,9 @@
 
 use super::breaks::changed_steps;
 use super::levels::bad_level;
-use super::lists::{damage_list, mislabel_list};
-use super::passing::any_passing;
+use super::lists::{any_passing_or_list, damage_list, mislabel_list};
 use crate::record::{
-    self, column, observer_levels, order, u32_at, Layout, EVENT_COUNT_AT, HEADER, START_AT, STATE_COUNT_AT,
+    self, column, observer_levels, u32_at, Layout, EVENT_COUNT_AT, FORMS, HEADER, ORDER, START_AT, STATE_COUNT_AT,
 };
 use crate::rng::Rng;
 
@@ -173,14 +172,6 @@ pub fn mangled(rng: &mut Rng, bytes: &[u8]) -> Vec<u8> {
     mangled
 }
 
-/// A kind described so far; where there is one alone, nothing is drawn.
-fn any_kind(rng: &mut Rng) -> u16 {
-    match record::kinds() {
-        [only] => *only,
-        kinds => rng.pick(kinds),
-    }
-}
-
 /// Random bytes, now and then with a length field and a kind that fit.
 pub fn random_bytes(rng: &mut Rng) -> Vec<u8> {
     let count = rng.below(80);
@@ -188,7 +179,7 @@ pub fn random_bytes(rng: &mut Rng) -> Vec<u8> {
     if bytes.len() >= 6 && rng.chance(1, 2) {
         let length = bytes.len() - HEADER;
         set_length(&mut bytes, length as u32);
-        bytes[4] = any_kind(rng) as u8;
+        bytes[4] = rng.pick(&FORMS).kind as u8;
         bytes[5] = 0;
     }
     bytes
@@ -196,11 +187,11 @@ pub fn random_bytes(rng: &mut Rng) -> Vec<u8> {
 
 /// A record that Check refuses or finds broken, for the most part.
 pub fn bad_record(rng: &mut Rng) -> Vec<u8> {
-    let part = any_passing(rng);
+    let part = any_passing_or_list(rng);
     let mut bytes = record::write(&part);
     match rng.below(4) {
         0 => {
-            let refusal = rng.pick(&order());
+            let refusal = rng.pick(&ORDER);
             damage(rng, &mut bytes, refusal);
             bytes
         }
@@ -215,20 +206,18 @@ mod tests {
     use super::*;
     use crate::check::{self, Verdict};
     use crate::make::{list_of_size, passing_of_size};
-    use crate::record::described::describe_lists;
     use crate::record::Part;
 
     /// Of the refusals, 20 alone needs several observers.
     #[test]
     fn damages_are_refused_as_meant() {
-        let refusals: Vec<u32> = order().into_iter().filter(|&refusal| refusal != 20).collect();
+        let refusals: Vec<u32> = ORDER.into_iter().filter(|&refusal| refusal != 20).collect();
         are_refused_as_meant(53, &refusals, passing_of_size);
     }
 
     #[test]
     fn damages_of_lists_are_refused_as_meant() {
-        let _before = describe_lists();
-        are_refused_as_meant(68, &order(), |rng, n, m| list_of_size(rng, n, m, n.clamp(2, 4)));
+        are_refused_as_meant(68, &ORDER, |rng, n, m| list_of_size(rng, n, m, n.clamp(2, 4)));
     }
 
     fn are_refused_as_meant(seed: u64, refusals: &[u32], maker: fn(&mut Rng, usize, usize) -> Part) {

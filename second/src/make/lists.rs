@@ -13,6 +13,7 @@ use crate::record::{
     MOST_LISTED,
 };
 use crate::rng::Rng;
+use std::ops::Range;
 
 /// A number of observers that a list may have.
 pub fn any_count(rng: &mut Rng) -> usize {
@@ -351,15 +352,18 @@ pub enum OtherList {
     OtherFirst,
     /// Another observer in the place of the last.
     OtherLast,
+    /// Another observer in a place between; of two the list stays as it is.
+    OtherBetween,
 }
 
-pub const OTHER_LISTS: [OtherList; 6] = [
+pub const OTHER_LISTS: [OtherList; 7] = [
     OtherList::Front,
     OtherList::Back,
     OtherList::FirstAlone,
     OtherList::LastAlone,
     OtherList::OtherFirst,
     OtherList::OtherLast,
+    OtherList::OtherBetween,
 ];
 
 /// The same table for another list of observers, for each of whom it passes. Where no other observer is found, the list
@@ -390,6 +394,15 @@ pub fn with_other_list(rng: &mut Rng, part: &Part, other: OtherList) -> Part {
                 changed.observers[last] = observer;
             }
         }
+        OtherList::OtherBetween if last > 1 => {
+            let i = rng.range(1, last - 1);
+            let (before, behind) = (part.observers[i - 1].level, part.observers[i + 1].level);
+            let is_between = |level| before < level && level < behind;
+            if let Some(observer) = another(rng, part, &part.observers, is_between, true) {
+                changed.observers[i] = observer;
+            }
+        }
+        OtherList::OtherBetween => {}
     }
     changed
 }
@@ -439,19 +452,29 @@ pub fn damage_list(rng: &mut Rng, bytes: &mut Vec<u8>) {
     if layout.form.first != First::Count || !(FEWEST_LISTED..=MOST_LISTED).contains(&count) {
         return;
     }
-    let i = if rng.chance(1, 2) { count - 1 } else { rng.range(1, count - 1) };
-    match rng.below(8) {
-        0 => with_count(rng, bytes, 0),
-        1 => with_count(rng, bytes, 1),
-        2 => with_count(rng, bytes, 5),
-        3 => with_count(rng, bytes, 255),
-        4 | 5 => bytes[layout.observer_at(i)] = bytes[layout.observer_at(i - 1)],
-        _ => bytes.swap(layout.observer_at(i), layout.observer_at(i - 1)),
+    if rng.chance(1, 2) {
+        let wrong = rng.pick(&[0, 1, 5, 255]);
+        with_count(rng, bytes, wrong);
+    } else {
+        let i = if rng.chance(1, 2) { count - 1 } else { rng.range(1, count - 1) };
+        let equal = rng.chance(1, 2);
+        misorder(bytes, i, equal);
+    }
+}
+
+/// Observers number i - 1 and i of a list get one level, or change places; all others still rise.
+pub fn misorder(bytes: &mut [u8], i: usize, equal: bool) {
+    let layout = Layout::of(bytes);
+    let (before, at) = (layout.observer_at(i - 1), layout.observer_at(i));
+    if equal {
+        bytes[at] = bytes[before];
+    } else {
+        bytes.swap(before, at);
     }
 }
 
 /// The record for so many observers: the first ones, or these and others, in rising order.
-fn with_count(rng: &mut Rng, bytes: &mut Vec<u8>, count: usize) {
+pub fn with_count(rng: &mut Rng, bytes: &mut Vec<u8>, count: usize) {
     let layout = Layout::of(bytes);
     let mut levels = observer_levels(bytes);
     let columns: Vec<Vec<u8>> = (0..layout.columns()).map(|i| column(bytes, i).to_vec()).collect();
@@ -476,24 +499,30 @@ fn with_count(rng: &mut Rng, bytes: &mut Vec<u8>, count: usize) {
     *bytes = changed;
 }
 
-/// Gives bad levels to the first observers of a list, which then still rise: to one or more of them, or to those behind
-/// the first, which gets 0x00. Behind a bad level there is no good one below 0x40.
+/// Gives bad levels to one or more of the first observers of a list, or to those behind the first.
 pub fn mislabel_list(rng: &mut Rng, bytes: &mut [u8]) {
+    let count = Layout::of(bytes).observers;
+    let behind = if rng.chance(1, 2) { count } else { rng.range(1, count) };
+    let first_is_good = behind > 1 && rng.chance(1, 2);
+    mislabel_observers(rng, bytes, usize::from(first_is_good)..behind);
+}
+
+/// Gives bad levels to these observers of a list, which then still rises. They begin with the first, or with the second
+/// and the first gets 0x00; all good levels behind the first are above the bad ones.
+pub fn mislabel_observers(rng: &mut Rng, bytes: &mut [u8], places: Range<usize>) {
     let layout = Layout::of(bytes);
-    let bad = if rng.chance(1, 2) { layout.observers } else { rng.range(1, layout.observers) };
-    let first_is_good = bad > 1 && rng.chance(1, 2);
     let mut levels: Vec<u8> = Vec::new();
-    while levels.len() < bad {
+    while levels.len() < places.len() {
         let level = bad_level(rng, 0xFF);
         if !levels.contains(&level) {
             levels.push(level);
         }
     }
     levels.sort();
-    if first_is_good {
-        levels[0] = 0x00;
+    for i in 0..places.start {
+        bytes[layout.observer_at(i)] = 0x00;
     }
-    for (i, level) in levels.into_iter().enumerate() {
+    for (i, level) in places.zip(levels) {
         bytes[layout.observer_at(i)] = level;
     }
 }
@@ -503,12 +532,10 @@ mod tests {
     use super::*;
     use crate::check::Verdict;
     use crate::join;
-    use crate::record::described::describe_lists;
     use crate::record::{self, first_refusal};
 
     #[test]
     fn lists_pass() {
-        let _before = describe_lists();
         let mut rng = Rng::new(92);
         for round in 0..300 {
             let part = match round % 3 {
@@ -541,7 +568,6 @@ mod tests {
 
     #[test]
     fn lists_break_where_they_are_meant_to() {
-        let _before = describe_lists();
         let mut rng = Rng::new(94);
         for rule in 2..=5 {
             for i in 0..4 {
@@ -562,7 +588,6 @@ mod tests {
 
     #[test]
     fn pairs_join_unless_a_list_is_changed() {
-        let _before = describe_lists();
         let mut rng = Rng::new(95);
         for _ in 0..100 {
             let (a, b) = joinable_lists(&mut rng);
@@ -582,7 +607,6 @@ mod tests {
 
     #[test]
     fn damaged_lists_are_refused() {
-        let _before = describe_lists();
         let mut rng = Rng::new(96);
         for _ in 0..300 {
             let bytes = record::write(&any_list(&mut rng));

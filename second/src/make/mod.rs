@@ -21,8 +21,9 @@ pub use levels::{
 pub use lines::{cut_line, line};
 pub use lists::{
     any_count, any_list, any_passing_or_list, breaking_list, breaking_list_at, bus_of_lists, damage_list,
-    joinable_lists, list_of_size, listed, mislabel_list, observer_for, pair_of_lists, seeing_more,
-    small_joinable_lists, small_list, staying_list, third_list_for, with_other_list, OtherList, OTHER_LISTS,
+    joinable_lists, list_of_size, listed, mislabel_list, mislabel_observers, misorder, observer_for, pair_of_lists,
+    seeing_more, small_joinable_lists, small_list, staying_list, third_list_for, with_count, with_other_list,
+    OtherList, OTHER_LISTS,
 };
 pub use pairs::{bus, joinable_pair, pair, regrouped, rename, small_joinable_pair, third_for, Clash, PairPlan};
 pub use passing::{

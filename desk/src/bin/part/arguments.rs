@@ -3,8 +3,6 @@
 use std::ffi::OsString;
 use std::path::PathBuf;
 
-use desk::kinds::allow_several;
-
 #[derive(Clone, Copy, PartialEq, Eq, Debug)]
 pub enum Command {
     Help,
@@ -33,12 +31,10 @@ impl Command {
         }
     }
 
-    /// Does the command take an option? An observer can be chosen only where a part of these kinds may have several.
-    fn takes(self, option: &str, kinds: &[u16]) -> bool {
+    fn takes(self, option: &str) -> bool {
         match option {
             "-o" => matches!(self, Command::Record | Command::Text | Command::Draw),
-            "--verdict" => self == Command::Draw,
-            "--observer" => self == Command::Draw && allow_several(kinds),
+            "--observer" | "--verdict" => self == Command::Draw,
             _ => false,
         }
     }
@@ -49,25 +45,25 @@ pub struct Arguments {
     pub command: Command,
     pub files: Vec<PathBuf>,
     pub out: Option<PathBuf>,
-    pub verdict: Option<String>,
     pub observer: Option<String>,
+    pub verdict: Option<String>,
 }
 
 impl Arguments {
     fn of(command: Command) -> Arguments {
-        Arguments { command, files: Vec::new(), out: None, verdict: None, observer: None }
+        Arguments { command, files: Vec::new(), out: None, observer: None, verdict: None }
     }
 
     /// Takes an option with the word behind it.
-    fn option(&mut self, option: &str, value: Option<OsString>, kinds: &[u16]) -> Result<(), String> {
-        if !self.command.takes(option, kinds) {
+    fn option(&mut self, option: &str, value: Option<OsString>) -> Result<(), String> {
+        if !self.command.takes(option) {
             return Err(format!("unexpected option {option}"));
         }
         let value = value.ok_or_else(|| format!("expected a word after {option}"))?;
         let again = match option {
             "-o" => self.out.replace(PathBuf::from(value)).is_some(),
-            "--verdict" => self.verdict.replace(value.to_string_lossy().into_owned()).is_some(),
-            _ => self.observer.replace(value.to_string_lossy().into_owned()).is_some(),
+            "--observer" => self.observer.replace(value.to_string_lossy().into_owned()).is_some(),
+            _ => self.verdict.replace(value.to_string_lossy().into_owned()).is_some(),
         };
         if again {
             return Err(format!("{option} stands twice"));
@@ -89,8 +85,8 @@ fn command(word: Option<OsString>) -> Result<Command, String> {
     Command::named(&word).ok_or_else(|| format!("expected record, text, diff or draw, found '{word}'"))
 }
 
-/// Reads the words behind the program's name; `kinds` are those of the records that are described.
-pub fn read(words: impl Iterator<Item = OsString>, kinds: &[u16]) -> Result<Arguments, String> {
+/// Reads the words behind the program's name.
+pub fn read(words: impl Iterator<Item = OsString>) -> Result<Arguments, String> {
     let mut words = words;
     let mut arguments = Arguments::of(command(words.next())?);
     while let Some(word) = words.next() {
@@ -98,7 +94,7 @@ pub fn read(words: impl Iterator<Item = OsString>, kinds: &[u16]) -> Result<Argu
             return Ok(Arguments::of(Command::Help));
         }
         match word.to_str() {
-            Some(option) if option.starts_with('-') => arguments.option(option, words.next(), kinds)?,
+            Some(option) if option.starts_with('-') => arguments.option(option, words.next())?,
             _ => arguments.files.push(PathBuf::from(word)),
         }
     }
@@ -114,12 +110,8 @@ pub fn read(words: impl Iterator<Item = OsString>, kinds: &[u16]) -> Result<Argu
 mod tests {
     use super::*;
 
-    fn read_kinds(line: &str, kinds: &[u16]) -> Result<Arguments, String> {
-        read(line.split(' ').filter(|word| !word.is_empty()).map(OsString::from), kinds)
-    }
-
     fn read_line(line: &str) -> Result<Arguments, String> {
-        read_kinds(line, &[1])
+        read(line.split(' ').filter(|word| !word.is_empty()).map(OsString::from))
     }
 
     fn fault(line: &str) -> String {
@@ -128,11 +120,11 @@ mod tests {
 
     #[test]
     fn the_commands() {
-        let arguments = read_line("draw a.part -o b.dot --verdict pass").unwrap();
+        let arguments = read_line("draw a.part -o b.dot --observer level --verdict pass").unwrap();
         assert_eq!(arguments.command, Command::Draw);
         assert_eq!(arguments.files, [PathBuf::from("a.part")]);
         assert_eq!(arguments.out, Some(PathBuf::from("b.dot")));
-        assert_eq!(arguments.verdict.as_deref(), Some("pass"));
+        assert_eq!((arguments.observer.as_deref(), arguments.verdict.as_deref()), (Some("level"), Some("pass")));
         assert_eq!(read_line("diff a b").unwrap().files.len(), 2);
         assert_eq!(read_line("record -o b a").unwrap().command, Command::Record);
         assert_eq!(read_line("text a").unwrap().command, Command::Text);
@@ -150,20 +142,11 @@ mod tests {
         assert_eq!(fault("diff a"), "expected 2 files, found 1");
         assert_eq!(fault("diff a b -o c"), "unexpected option -o");
         assert_eq!(fault("text a --verdict pass"), "unexpected option --verdict");
+        assert_eq!(fault("text a --observer level"), "unexpected option --observer");
         assert_eq!(fault("draw a --colour"), "unexpected option --colour");
         assert_eq!(fault("draw a -o"), "expected a word after -o");
+        assert_eq!(fault("draw a --observer"), "expected a word after --observer");
         assert_eq!(fault("draw a -o b -o c"), "-o stands twice");
-    }
-    /// It is an option only with kind 2, and of `draw` alone.
-    #[test]
-    fn the_option_for_an_observer() {
-        let arguments = read_kinds("draw a.part --observer level --verdict pass", &[1, 2]).unwrap();
-        assert_eq!(arguments.observer.as_deref(), Some("level"));
-        assert_eq!(arguments.verdict.as_deref(), Some("pass"));
-        assert_eq!(fault("draw a --observer level"), "unexpected option --observer");
-        let with_several = |line| read_kinds(line, &[1, 2]).unwrap_err();
-        assert_eq!(with_several("text a --observer level"), "unexpected option --observer");
-        assert_eq!(with_several("draw a --observer"), "expected a word after --observer");
-        assert_eq!(with_several("draw a --observer b --observer c"), "--observer stands twice");
+        assert_eq!(fault("draw a --observer b --observer c"), "--observer stands twice");
     }
 }

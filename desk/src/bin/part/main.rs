@@ -10,10 +10,9 @@ use std::process::exit;
 use arguments::{Arguments, Command};
 use desk::diff::differences;
 use desk::draw::{draw, shown};
-use desk::kinds::KINDS;
 use desk::{reader, record, verdict, writer};
 use files::{Trouble, CONTENT, USAGE};
-use help::help;
+use help::HELP;
 
 fn record_command(arguments: &Arguments) -> Result<i32, Trouble> {
     let table = files::table(&arguments.files[0])?;
@@ -67,10 +66,10 @@ fn draw_command(arguments: &Arguments) -> Result<i32, Trouble> {
 }
 
 fn run() -> Result<i32, Trouble> {
-    let arguments = arguments::read(std::env::args_os().skip(1), KINDS)
+    let arguments = arguments::read(std::env::args_os().skip(1))
         .map_err(|why| Trouble::new(USAGE, format!("part: {why}; part --help tells the usage")))?;
     match arguments.command {
-        Command::Help => files::write(&arguments, help(KINDS).as_bytes()).map(|()| 0),
+        Command::Help => files::write(&arguments, HELP.as_bytes()).map(|()| 0),
         Command::Record => record_command(&arguments),
         Command::Text => text_command(&arguments),
         Command::Diff => diff_command(&arguments).map_err(|trouble| Trouble::new(USAGE, trouble.message)),

@@ -10,7 +10,7 @@ use second::cases::{self, Reasons};
 use second::category::{self, Tally};
 use second::check::{self, Verdict};
 use second::make;
-use second::record::{self, is_described};
+use second::record;
 use second::replay::hex;
 
 pub fn need(tally: &mut Tally) {
@@ -23,7 +23,8 @@ pub fn need(tally: &mut Tally) {
         tally.need(&format!("check: {}", name), LEAST);
     }
     for reasons in cases::each_two_reasons() {
-        tally.need(&twice_damaged_name(reasons), LEAST);
+        tally.need(&twice_damaged_name("record", reasons), LEAST);
+        tally.need(&twice_damaged_name("record of several observers", reasons), LEAST / 4);
     }
     label::need(tally, "check:", LEAST);
     internal::need(tally, "check:", LEAST);
@@ -36,12 +37,12 @@ pub fn need(tally: &mut Tally) {
     tally.need("check: record with each bit changed", LEAST_OF_MAIN);
 }
 
-fn twice_damaged_name((earlier, later): Reasons) -> String {
+fn twice_damaged_name(what: &str, (earlier, later): Reasons) -> String {
     let later = match later {
         Some(number) => number.to_string(),
         None => "a break".to_string(),
     };
-    format!("check: damaged for {} and {}, refused {}", earlier, later, earlier)
+    format!("check: {} damaged for {} and {}, refused {}", what, earlier, later, earlier)
 }
 
 impl Comparison {
@@ -106,11 +107,11 @@ impl Comparison {
             let (bytes, reasons) = cases::twice_damaged(&mut self.rng);
             self.check_record(&bytes);
             if check::check(&bytes) == Verdict::Refused(reasons.0) {
-                self.tally.count(&twice_damaged_name(reasons));
+                self.tally.count(&twice_damaged_name("record", reasons));
             }
         }
         for _ in 0..2000 {
-            let part = make::any_passing(&mut self.rng);
+            let part = make::any_passing_or_list(&mut self.rng);
             let bytes = make::mangled(&mut self.rng, &record::write(&part));
             self.check_record(&bytes);
             self.tally.count("check: mangled record");
@@ -137,22 +138,16 @@ impl Comparison {
         for bytes in cases::lists(&mut self.rng, LEAST) {
             self.check_record(&bytes);
         }
-        if is_described(2) {
-            self.lists_cut_and_changed();
-        }
+        self.lists_damaged_twice();
     }
 
-    /// Records of several observers, cut and changed as below, and damaged in two ways.
-    fn lists_cut_and_changed(&mut self) {
-        for _ in 0..5 {
-            let bytes = record::write(&make::list_of_size(&mut self.rng, 2, 2, 3));
-            self.cut_and_changed(&bytes);
-        }
-        for _ in 0..MOST_TRIES / 10 {
+    /// Records of several observers, damaged in two ways.
+    fn lists_damaged_twice(&mut self) {
+        for _ in 0..MOST_TRIES / 3 {
             let (bytes, reasons) = cases::twice_damaged_list(&mut self.rng);
             self.check_record(&bytes);
             if check::check(&bytes) == Verdict::Refused(reasons.0) {
-                self.tally.count(&twice_damaged_name(reasons));
+                self.tally.count(&twice_damaged_name("record of several observers", reasons));
             }
         }
     }

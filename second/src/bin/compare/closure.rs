@@ -8,12 +8,12 @@ use crate::report::differ;
 use crate::{all_examples, Comparison, LEAST, LEAST_OF_MAIN, MOST_TRIES};
 use second::cases;
 use second::category::Tally;
-use second::category_closure::{self, LONGEST};
+use second::category_closure;
 use second::category_internal;
 use second::category_join::shared_low_event_adds;
 use second::category_list_calls;
 use second::check;
-use second::closure::{self, PIECE};
+use second::closure::{self, LONGEST, PIECE};
 use second::examples;
 use second::explain::EXPLANATION;
 use second::join;
@@ -107,7 +107,7 @@ impl Comparison {
         self.close_record(&record::write(part));
     }
 
-    /// A buffer length: just enough, one short, none, one more, some bytes more, or that of 64 states.
+    /// A buffer length: just enough, one short, none, one more, some bytes more, or that of the longest closures.
     fn room_for_closures(&mut self, bytes: &[u8]) -> usize {
         let needed = match record::read(bytes) {
             Ok(part) => closure::length(&part),

@@ -146,7 +146,7 @@ impl Comparison {
         let examples = all_examples();
         for a in &examples {
             for b in &examples {
-                for room in [0, 10, 11, 51, 52, longest()] {
+                for room in [0, 10, 11, 14, 51, 52, 55, 56, longest()] {
                     self.join_pair(a, b, room);
                 }
             }

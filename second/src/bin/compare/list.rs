@@ -1,17 +1,18 @@
-//! Categories of lists of observers, for each call that takes a record, and the inputs for them. Before kind 2 is described
-//! there are none of either.
+//! Categories of kinds and of lists of observers, for each call that takes a record, and the inputs for them.
 
-use crate::{Comparison, LEAST};
+use crate::{Comparison, LEAST, MOST_TRIES};
 use second::bench::Call;
 use second::cases;
 use second::category::Tally;
 use second::category_list;
+use second::category_list_calls::own_count_name;
 use second::check::Verdict;
 use second::closure::{self, PIECE};
+use second::examples;
 use second::explain::EXPLANATION;
 use second::join;
 use second::make::{self, Clash, PairPlan, Script, OTHER_LISTS};
-use second::record::{self, is_described, longest, Part, MOST_LISTED};
+use second::record::{self, longest, Part, MOST_LISTED};
 
 /// The least number of cases of a category for A, and for B.
 pub const LEAST_OF_SIDES: usize = LEAST / 4;
@@ -54,9 +55,6 @@ impl Comparison {
         for bytes in cases::lists(&mut self.rng, LEAST) {
             self.close_record(&bytes);
         }
-        if !is_described(2) {
-            return;
-        }
         for round in 0..15 * LEAST {
             let part = self.list_for_debugger(round);
             let block = PIECE * part.state_count();
@@ -82,12 +80,25 @@ impl Comparison {
         for bytes in cases::lists(&mut self.rng, LEAST) {
             self.explain(&bytes, EXPLANATION);
         }
-        if !is_described(2) {
-            return;
-        }
         for round in 0..20 * LEAST {
             let part = self.list_for_debugger(round);
             self.explain(&record::write(&part), EXPLANATION);
+        }
+        // Until the observers that a break tells have counts of their own.
+        for round in 0..MOST_TRIES {
+            let lacks = |i: &usize| self.tally.lacks(&format!("explain: {}", own_count_name(*i)));
+            let Some(i) = (1..=MOST_LISTED).find(lacks) else {
+                break;
+            };
+            let part = if i == 1 {
+                let n = self.rng.range(3, 8);
+                Some(make::seeing_more(&mut self.rng, n, MOST_LISTED))
+            } else {
+                make::breaking_list_at(&mut self.rng, 4 + round as u32 % 2, i - 1, MOST_LISTED)
+            };
+            if let Some(part) = part {
+                self.explain(&record::write(&part), EXPLANATION);
+            }
         }
     }
 
@@ -103,9 +114,6 @@ impl Comparison {
             let good = record::write(&make::any_passing_or_list(&mut self.rng));
             self.join_pair(&bytes, &good, 100);
             self.join_pair(&good, &bytes, longest());
-        }
-        if !is_described(2) {
-            return;
         }
         for _ in 0..6 * LEAST {
             let (a, b) = make::joinable_lists(&mut self.rng);
@@ -124,14 +132,36 @@ impl Comparison {
             self.join_planned(plan);
         }
         self.joins_of_short_buffers();
-        // The longest joined record there is.
         for round in 0..LEAST {
-            let shared = self.rng.range(0, 8);
-            let only_a = self.rng.range(0, 32 - shared);
-            let only_b = 32 - shared - only_a;
-            let plan = PairPlan { na: 8, nb: 8, only_a, only_b, shared, clash: Clash::None, observers_differ: false };
-            let (a, b) = make::pair_of_lists(&mut self.rng, plan, MOST_LISTED);
+            let (a, b) = self.longest_pair();
             self.join_pair(&record::write(&a), &record::write(&b), longest() + round % 3);
+        }
+        self.joins_refused_without_room();
+    }
+
+    /// Two parts whose joined record is the longest there is.
+    fn longest_pair(&mut self) -> (Part, Part) {
+        let shared = self.rng.range(0, 8);
+        let only_a = self.rng.range(0, 32 - shared);
+        let only_b = 32 - shared - only_a;
+        let plan = PairPlan { na: 8, nb: 8, only_a, only_b, shared, clash: Clash::None, observers_differ: false };
+        make::pair_of_lists(&mut self.rng, plan, MOST_LISTED)
+    }
+
+    /// Refusals 9, 10 and 11 of several observers, two of them at a time and without room.
+    fn joins_refused_without_room(&mut self) {
+        for round in 0..4 * LEAST {
+            let (na, nb, clash) = [(9, 8, Clash::None), (9, 8, Clash::Kind), (2, 2, Clash::Level)][round % 3];
+            let mut plan = self.plan_of_lists(na, nb);
+            plan.shared = plan.shared.max(1);
+            plan.clash = clash;
+            let count = make::any_count(&mut self.rng);
+            let (a, b) = make::pair_of_lists(&mut self.rng, plan, count);
+            let other = self.rng.pick(&OTHER_LISTS);
+            let of_others = make::with_other_list(&mut self.rng, &b, other);
+            for b in [&b, &of_others] {
+                self.join_pair(&record::write(&a), &record::write(b), 0);
+            }
         }
     }
 
@@ -159,9 +189,7 @@ impl Comparison {
         let records = cases::lists(&mut self.rng, LEAST + LEAST / 4);
         self.replay_loads(path, &records, 80_000);
         self.replay_loads(path, &records, 6);
-        if !is_described(2) {
-            return;
-        }
+        self.replay_uncleared(path, &records);
         for _ in 0..LEAST {
             let capacity = self.rng.range(2000, 60_000);
             let script = make::session_on_lists(&mut self.rng, capacity, 30);
@@ -171,10 +199,32 @@ impl Comparison {
             for capacity in [total, (total - 1).max(6)] {
                 self.replay_calls(path, capacity, &calls);
             }
+            self.replay_rooms_of_lists(path);
         }
         for round in 0..2 * LEAST {
             self.replay_racks_of_lists(path);
             self.replay_pairs_of_lists(path, round);
+        }
+        for _ in 0..LEAST / 4 {
+            let (a, b) = self.longest_pair();
+            let (calls, total) = make::hookup_calls(&a, &b);
+            self.replay_calls(path, total, &calls);
+        }
+    }
+
+    /// Capacities just enough, one byte short, and enough for the first observer alone, for a load and a hookup.
+    fn replay_rooms_of_lists(&mut self, path: &str) {
+        let (a, b) = make::joinable_lists(&mut self.rng);
+        let (calls, total) = make::hookup_calls(&a, &b);
+        let joined = join::joined_part(&a, &b);
+        let others = (joined.observers.len() - 1) * joined.state_count() + joined.observers.len();
+        for capacity in [total, total - 1, total - others] {
+            self.replay_calls(path, capacity, &calls);
+        }
+        let load = [Call::Load(record::write(&a))];
+        let total = make::capacity_needed(&load);
+        for capacity in [total, total - 1] {
+            self.replay_calls(path, capacity, &load);
         }
     }
 
@@ -192,13 +242,24 @@ impl Comparison {
         script.hookup(3, 2);
         script.part(3);
         script.count();
+        // A part without events joins with itself, and so does what comes of it.
+        let count = make::any_count(&mut self.rng);
+        script.load(&record::write(&make::list_of_size(&mut self.rng, 2, 0, count)));
+        let number = 4 + u32::from(join::refusal_of_pair(&first, &third).is_none());
+        script.hookup(number, number);
+        script.hookup(number + 1, number + 1);
+        script.hookup(number, 99);
+        script.hookup(99, number);
+        script.load(&examples::z());
+        script.count();
+        script.clear();
         self.replay_script(path, &script.bytes);
     }
 
     /// Pairs that are refused with 9, 10 and 11, and some that join, on a full shelf and with room.
     fn replay_pairs_of_lists(&mut self, path: &str, round: usize) {
-        let mut plan = if round % 4 == 0 { self.plan_of_lists(9, 8) } else { self.plan_of_lists(3, 2) };
-        if round % 4 == 1 {
+        let mut plan = if round % 4 < 2 { self.plan_of_lists(9, 8) } else { self.plan_of_lists(3, 2) };
+        if round % 2 == 1 {
             plan.shared = 1;
             plan.clash = Clash::Level;
         }
@@ -214,7 +275,8 @@ impl Comparison {
             calls.push(Call::Hookup(0, i));
             calls.push(Call::Hookup(i, 0));
         }
-        let capacity = if round % 2 == 0 { full } else { 80_000 };
-        self.replay_calls(path, capacity, &calls);
+        for capacity in [full, 80_000] {
+            self.replay_calls(path, capacity, &calls);
+        }
     }
 }

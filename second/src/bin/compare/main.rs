@@ -63,7 +63,7 @@ impl Comparison {
     }
 }
 
-/// Document 01's examples of records, starred or not, and those for request i.
+/// Document 01's examples of records, starred or not, and those for requests i and k.
 fn all_examples() -> Vec<Vec<u8>> {
     vec![
         examples::p(),
@@ -79,6 +79,13 @@ fn all_examples() -> Vec<Vec<u8>> {
         examples::z(),
         record::write(&examples::parity_with_stop_as_output()),
         record::write(&examples::parity_with_stop_as_input()),
+        examples::p_for_two(),
+        examples::q_for_two(),
+        examples::z_for_two(),
+        examples::z_for(&[0x00, 0x40, 0x41, 0xFF]),
+        record::write(&examples::t_for_two([0, 0, 0], [0, 0, 1])),
+        record::write(&examples::t_for_two([0, 0, 1], [0, 0, 1])),
+        record::write(&examples::lower_rule_at_the_second()),
     ]
 }
 

@@ -8,6 +8,7 @@ use crate::report::{differ, shown};
 use crate::{all_examples, Comparison, LEAST, LEAST_OF_MAIN};
 use second::cases;
 use second::category::Tally;
+use second::category_list_replay;
 use second::category_replay::{self, verdict_of_load};
 use second::examples;
 use second::join;
@@ -21,7 +22,7 @@ const LOAD: &str = "replay: load,";
 pub fn need(tally: &mut Tally) {
     for name in category_replay::names() {
         let least = if category_replay::is_main(&name) { LEAST_OF_MAIN } else { LEAST };
-        tally.need(&format!("replay: {}", name), least);
+        tally.need(&format!("replay: {}", name), category_list_replay::least_of(&name, least));
     }
     label::need(tally, LOAD, LEAST);
     internal::need(tally, LOAD, LEAST);
@@ -108,7 +109,7 @@ impl Comparison {
     }
 
     /// Loads of these records on a shelf that was never cleared.
-    fn replay_uncleared(&mut self, path: &str, records: &[Vec<u8>]) {
+    pub fn replay_uncleared(&mut self, path: &str, records: &[Vec<u8>]) {
         for some in records.chunks(50) {
             let mut script = Script::new(self.rng.below(100));
             for bytes in some.iter().filter(|bytes| bytes.len() < 1000) {

@@ -1,11 +1,9 @@
-use mathlib.Core.Path.{_≡_, sym, ap, _∙_}
+use mathlib.Core.Path.{_≡_, refl, sym, ap, _∙_}
 use mathlib.Core.List.{[], _∷_}
 use native.Mathlib.Omega.{arith}
 use borrow.Author.Needs.{needs}
-use Rattle.screening.proofs.Ranges.{frame}
 use Rattle.restrictive.specs.Verdict.{breaks, verdict}
 use Rattle.restrictive.specs.Answers.{violation-of, verdict-of}
-use Rattle.restrictive.proofs.Theorems.{breaks-exactly}
 use Rattle.explain.specs.Answers.{explaining-of}
 use Rattle.explain.proofs.Told.{told, told-refused, of-break, of-pass}
 use Rattle.explain.proofs.call.explain.Statement.{statement}
@@ -31,10 +29,6 @@ breaking : (c : tie.After-verdict) → verdict (c .before .before .before .befor
 unfolding verdict-of
 breaking c = sym (c .before .before .check .ensures .verdict) ∙ ap verdict-of (c .verdict .given .1)
 
-observer-requires : tie.Need-observer-requires
-observer-requires c κs =
-    let f = frame _ (breaks-exactly _ _ .0 (breaking (c .before)) .0) in (f, f .some-observer)
-
 cast-level : tie.Need-cast-level
 cast-level c = search needs
 
@@ -48,14 +42,13 @@ returns-2 : tie.Need-returns-2
 unfolding verdict-of violation-of
 returns-2 c =
     let tell = c .before .before in
-    let level = tell .before .before .before in
-    let branch = level .before .before in
+    let branch = tell .before .before .before .before .before in
     let report = branch .before .before .check in
     let w = branch .verdict .given .0 .0 in
     let numbers =
-    w .rule ∷ w .event ∷ w .s ∷ w .t ∷ w .u ∷ report .result .taken ∷ level .observer .result ∷ 0 ∷ [] in
+    w .rule ∷ w .event ∷ w .s ∷ w .t ∷ w .u ∷ report .result .taken ∷ w .level ∷ 0 ∷ [] in
     told _ _ numbers (breaking branch)
-    (of-break _ (breaking branch) (report .ensures .taken) (level .observer .ensures)) (tell .tell .ensures .0)
+    (of-break _ (breaking branch) (report .ensures .taken) refl) (tell .tell .ensures .0)
     (tell .tell .ensures .1)
 
 enum-told-2 : tie.Need-enum-told-2
@@ -78,6 +71,5 @@ returns-3 c =
     (of-pass _ passing (report .ensures .taken)) (tell .tell2 .ensures .0) (tell .tell2 .ensures .1)
 
 pub explain-spec : {M : Type 1} → statement M
-explain-spec = tie.close (tie.spec check-requires enum-told enum-known-verdict observer-requires cast-level
-    tell-requires
+explain-spec = tie.close (tie.spec check-requires enum-told enum-known-verdict cast-level tell-requires
     enum-told-2 tell-requires-2 returns same-length returns-2 same-length-2 returns-3)

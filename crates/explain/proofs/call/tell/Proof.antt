@@ -13,8 +13,8 @@ returns c =
     let short = lt-ltb (length (c .before .before .args .out .now)) 64 (omega (arith, c .if1 .taken)) in
     (rw short refl, rw short refl)
 
-put-numbers-requires : tie.Need-put-numbers-requires
-put-numbers-requires c κs = omega (arith, c .before .if1 .left)
+put-words-requires : tie.Need-put-words-requires
+put-words-requires c κs = omega (arith, c .before .if1 .left)
 
 same-length : tie.Need-same-length
 same-length c = search needs
@@ -25,7 +25,7 @@ returns-2 c =
     let put = c .before .before in
     let test = put .before .before in
     let room = le-ltb (length (test .before .before .args .out .now)) 64 (omega (arith, test .if1 .left)) in
-    (rw room refl, rw room (put .put-numbers .ensures))
+    (rw room refl, rw room (put .put-words .ensures))
 
 pub tell-spec : {M : Type 1} → statement M
-tell-spec = tie.close (tie.spec returns put-numbers-requires same-length returns-2)
+tell-spec = tie.close (tie.spec returns put-words-requires same-length returns-2)

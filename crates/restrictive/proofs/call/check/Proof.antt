@@ -4,9 +4,8 @@ use denote.Ref.{now}
 use native.Mathlib.Omega.{arith}
 use Rattle.screening.specs.Rejections.{rejection}
 use Rattle.screening.specs.Answers.{rejection-of}
-use Rattle.part.proofs.Fields.{level-inside}
 use Rattle.restrictive.specs.Answers.{verdict-of}
-use Rattle.restrictive.proofs.Verdicts.{reports-refused, reports-rules, ready}
+use Rattle.restrictive.proofs.Verdicts.{reports-refused, reports-rules}
 use borrow.Author.Needs.{needs}
 use Rattle.restrictive.proofs.call.check.Statement.{statement}
 use Rattle.restrictive.proofs.call.check.Tie as tie
@@ -31,15 +30,8 @@ accepted : (c : tie.After-enum-told) → rejection (now (c .before .before .befo
 unfolding rejection-of
 accepted c = sym (c .before .before .screen .ensures) ∙ ap rejection-of (c .enum-told .given .1)
 
-observer-requires : tie.Need-observer-requires
-observer-requires c κs = let f = ready _ (accepted c) .framed in (f, f .some-observer)
-
-column-requires : tie.Need-column-requires
-column-requires c κs =
-    let f = ready _ (accepted (c .before)) .framed in (f, level-inside _ 0 f (f .some-observer) .1)
-
-first-violation-requires : tie.Need-first-violation-requires
-first-violation-requires c κs = rw (c .column .ensures) (ready _ (accepted (c .before .before)))
+by-observers-requires : tie.Need-by-observers-requires
+by-observers-requires c κs = accepted c
 
 by-rules-requires : tie.Need-by-rules-requires
 by-rules-requires c κs = search needs
@@ -47,11 +39,9 @@ by-rules-requires c κs = search needs
 returns-2 : tie.Need-returns-2
 returns-2 c =
     let rules = c .before in
-    let found = rules .first-violation in
-    let finds =
-    rw (rules .before .column .ensures, rules .before .before .observer .ensures) at (found .ensures) in
-    reports-rules _ (found .result) (accepted (rules .before .before .before)) finds (c .by-rules .ensures)
+    let found = rules .by-observers in
+    reports-rules _ (found .result) (accepted (rules .before)) (found .ensures) (c .by-rules .ensures)
 
 pub check-spec : {M : Type 1} → statement M
-check-spec = tie.close (tie.spec screen-requires enum-known-screened returns enum-told observer-requires column-requires
-    first-violation-requires by-rules-requires returns-2)
+check-spec = tie.close (tie.spec screen-requires enum-known-screened returns enum-told by-observers-requires
+    by-rules-requires returns-2)

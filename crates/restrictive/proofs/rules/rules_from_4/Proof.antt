@@ -4,7 +4,7 @@ use native.Mathlib.Omega.{arith}
 use borrow.Author.Needs.{needs}
 use Rattle.bounded.proofs.Search.{true-not-false, first-more}
 use Rattle.relations.proofs.SilentReach.{closure-reach, closure-total, sizes-alone}
-use Rattle.restrictive.specs.Verdict.{first-violation}
+use Rattle.restrictive.specs.Verdict.{violation-for}
 use Rattle.restrictive.proofs.OfferArrays.{direct-alone}
 use Rattle.restrictive.proofs.Sameness.{unspoken}
 use Rattle.restrictive.proofs.Scans.{found-last}
@@ -37,7 +37,7 @@ by-event-requires c κs =
     )
 
 returns : tie.Need-returns
-unfolding first-violation
+unfolding violation-for
 returns c =
     let test = c .before .before .before in
     let start = test .before .before .before .before .before in

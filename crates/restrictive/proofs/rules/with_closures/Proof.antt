@@ -7,7 +7,7 @@ use Rattle.words.specs.Sets.{Rows}
 use Rattle.words.proofs.Arrays.{filled-end}
 use Rattle.part.specs.Record.{states, observing}
 use Rattle.restrictive.specs.Sets.{reached}
-use Rattle.restrictive.specs.Verdict.{first-violation}
+use Rattle.restrictive.specs.Verdict.{violation-for}
 use Rattle.restrictive.proofs.OfferArrays.{reached-classes, around-offers}
 use Rattle.restrictive.proofs.Scans.{found-first, nothing-more, found-last}
 use Rattle.restrictive.proofs.rules.with_closures.Statement.{statement}
@@ -45,7 +45,7 @@ enum-told : tie.Need-enum-told
 enum-told c = search needs
 
 returns : tie.Need-returns
-unfolding first-violation
+unfolding violation-for
 returns c =
     let four = c .before .before in
     let start = four .before .before .before .before .before .before .before .before in
@@ -70,7 +70,7 @@ by-event-requires c κs =
     )
 
 returns-2 : tie.Need-returns-2
-unfolding first-violation
+unfolding violation-for
 returns-2 c =
     let told = c .before .before .before .before in
     let four = told .before .before in

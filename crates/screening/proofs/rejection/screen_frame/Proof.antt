@@ -34,6 +34,12 @@ past-5 : (c : tie.Else5)
     (now (c .before .before .before .before .before .before .before .before .before .before .before .args .b))
 past-5 c = past-4 (c .before .before) ∙ skip _ _ _ cc
 
+past-6 : (c : tie.Else6)
+    → Passed 6
+    (now (c .before .before .before .before .before .before .before .before .before .before .before .before .before
+    .args .b))
+past-6 c = past-5 (c .before .before) ∙ skip _ _ _ cc
+
 too-short-requires : tie.Need-too-short-requires
 too-short-requires c κs = search needs
 
@@ -69,10 +75,18 @@ returns-5 : tie.Need-returns-5
 unfolding rejection-of
 returns-5 c = sym (past-4 (c .before .before) ∙ hit _ _ _ cc)
 
+mislisted-requires : tie.Need-mislisted-requires
+mislisted-requires c κs = ((cc), ((cc), ((cc), ((cc), (cc)))))
+
 returns-6 : tie.Need-returns-6
+unfolding rejection-of
+returns-6 c = sym (past-5 (c .before .before) ∙ hit _ _ _ cc)
+
+returns-7 : tie.Need-returns-7
 unfolding first-of rejection-of
-returns-6 c = sym (past-5 c)
+returns-7 c = sym (past-6 c)
 
 pub screen-frame-spec : {M : Type 1} → statement M
 screen-frame-spec = tie.close (tie.spec too-short-requires returns wrong-length-requires returns-2 wrong-kind-requires
-    returns-3 out-of-range-requires returns-4 wrong-size-requires returns-5 returns-6)
+    returns-3 out-of-range-requires returns-4 wrong-size-requires returns-5 mislisted-requires
+    returns-6 returns-7)

@@ -1,5 +1,6 @@
-use Rattle.screening.specs.Rejections.{wrong-kind}
-use Rattle.screening.proofs.Rejections.{long}
+use mathlib.Core.Path.{sym, _∙_}
+use borrow.Author.Needs.{needs}
+use Rattle.screening.proofs.Rejections.{long, kind-one, kind-other}
 use Rattle.screening.proofs.rejection.wrong_kind.Statement.{statement}
 use Rattle.screening.proofs.rejection.wrong_kind.Tie as tie
 
@@ -7,8 +8,12 @@ kind-requires : tie.Need-kind-requires
 kind-requires c κs = long _ (c .before .pre)
 
 returns : tie.Need-returns
-unfolding wrong-kind
-returns c = let read = c .kind .ensures in cc
+returns c = sym (kind-one _ (sym (c .before .kind .ensures) ∙ c .if1 .taken))
+
+returns-2 : tie.Need-returns-2
+returns-2 c =
+    let read = c .before .kind .ensures in
+    rw (read) (sym (kind-other _ (λ q. c .if1 .left (read ∙ q))))
 
 pub wrong-kind-spec : {M : Type 1} → statement M
-wrong-kind-spec = tie.close (tie.spec kind-requires returns)
+wrong-kind-spec = tie.close (tie.spec kind-requires returns returns-2)

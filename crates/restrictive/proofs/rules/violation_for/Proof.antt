@@ -9,8 +9,8 @@ use Rattle.restrictive.specs.Verdict.{rule-violation}
 use Rattle.restrictive.proofs.Sameness.{no-events}
 use Rattle.restrictive.proofs.Scans.{nothing-more}
 use Rattle.restrictive.proofs.Taken.{finds-early, finds-none}
-use Rattle.restrictive.proofs.rules.first_violation.Statement.{statement}
-use Rattle.restrictive.proofs.rules.first_violation.Tie as tie
+use Rattle.restrictive.proofs.rules.violation_for.Statement.{statement}
+use Rattle.restrictive.proofs.rules.violation_for.Tie as tie
 
 events-requires : tie.Need-events-requires
 events-requires c κs = search needs
@@ -53,6 +53,6 @@ rules-from-2-requires c κs =
 returns-3 : tie.Need-returns-3
 returns-3 c = search needs
 
-pub first-violation-spec : {M : Type 1} → statement M
-first-violation-spec = tie.close (tie.spec events-requires returns concerned-requires array-read-rule-1 rule-1-requires
+pub violation-for-spec : {M : Type 1} → statement M
+violation-for-spec = tie.close (tie.spec events-requires returns concerned-requires array-read-rule-1 rule-1-requires
     enum-told returns-2 enum-told-2 rules-from-2-requires returns-3)

@@ -1,28 +1,31 @@
 use Prim.Native.Nat.{_-_, _*_, _≤_}
 use mathlib.Core.Path.{_≡_, refl, ap, _∙_}
-use native.Mathlib.Nat.{zero-add}
 use native.Mathlib.Omega.{arith}
 use lib.ListN.{length, getD}
 use Rattle.bounded.specs.Search.{each}
 use Rattle.words.specs.Laid.{over}
 use Rattle.words.specs.LittleEndian.{digits}
 use Rattle.words.proofs.LaidLaws.{length-over, nothing-laid, piece-turn}
 use Rattle.words.proofs.LittleEndian.{length-digits}
-use Rattle.explain.proofs.numbers.put_numbers.Statement.{statement}
-use Rattle.explain.proofs.numbers.put_numbers.Tie as tie
+use Rattle.words.proofs.le.put_words.Statement.{statement}
+use Rattle.words.proofs.le.put_words.Tie as tie
 
 -- The numbers at the places below i are laid.
 abbrev Inv-loop : tie.InvT-loop
-Inv-loop out₀ numbers i₀ out i = (i ≤ 8) × (out ≡ over out₀ 0 (each i (λ k. digits 8 (getD numbers k 0))))
+Inv-loop out₀ at numbers i₀ out i = (i ≤ 8) × (out ≡ over out₀ at (each i (λ k. digits 8 (getD numbers k 0))))
 
 abbrev μ-loop : tie.MeasureT-loop
-μ-loop out₀ numbers i₀ out i = 8 - i
+μ-loop out₀ at numbers i₀ out i = 8 - i
 
 loop-holds : tie.Need-loop-holds Inv-loop μ-loop
 loop-holds c = (omega arith, nothing-laid _ _ _)
 
 mul-put64 : tie.Need-mul-put64 Inv-loop μ-loop
 mul-put64 c = omega arith
+
+add-put64 : tie.Need-add-put64 Inv-loop μ-loop
+add-put64 c =
+    let start = c .before .before .before .before in omega (arith, start .pre, start .fits)
 
 mul-put64-2 : tie.Need-mul-put64-2 Inv-loop μ-loop
 mul-put64-2 c = omega arith
@@ -43,8 +46,8 @@ loop-again : tie.Need-loop-again Inv-loop μ-loop
 loop-again c =
     let loop = c .before .before .before .before .before .before in (
       omega arith,
-      piece-turn _ 0 (loop .loop .i) 8 _ (λ k. length-digits 8 _) (loop .loop .inv .1) refl refl
-          (rw (zero-add (loop .loop .i * 8)) (c .before .before .put64 .ensures)),
+      piece-turn _ (loop .before .before .args .at) (loop .loop .i) 8 _ (λ k. length-digits 8 _) (loop .loop .inv .1)
+          refl refl (c .before .before .put64 .ensures),
     )
 
 same-length : tie.Need-same-length Inv-loop μ-loop
@@ -55,6 +58,6 @@ returns c =
     let all : c .before .loop .i ≡ 8 = omega arith in
     rw all at (c .before .loop .inv .1)
 
-pub put-numbers-spec : {M : Type 1} → statement M
-put-numbers-spec = tie.close (tie.spec Inv-loop μ-loop loop-holds mul-put64 mul-put64-2 element-copy-out-put64
+pub put-words-spec : {M : Type 1} → statement M
+put-words-spec = tie.close (tie.spec Inv-loop μ-loop loop-holds mul-put64 add-put64 mul-put64-2 element-copy-out-put64
     put64-requires add-i loop-less loop-again same-length returns)
