@@ -199,61 +199,70 @@ fn repeat_writer(writer: Writer, record: &[u8], out: &mut [u8], calls: usize) {
     }
 }
 
-fn time_check(plan: Plan, record: &[u8]) -> [Time; 3] {
-    race(plan, VERSIONS.each_ref().map(|version| move |calls| repeat_check(version, record, calls)))
+/// Makes a number of calls of one version.
+type Job<'a> = Box<dyn FnMut(usize) + 'a>;
+
+fn check_job<'a>(version: &'static Version, record: &'a [u8]) -> Job<'a> {
+    Box::new(move |calls| repeat_check(version, record, calls))
 }
 
-fn time_join(plan: Plan, a: &[u8], b: &[u8]) -> [Time; 3] {
-    let job = |version| {
-        let mut out = vec![0; LONGEST];
-        move |calls| repeat_join(version, a, b, &mut out, calls)
-    };
-    race(plan, VERSIONS.each_ref().map(job))
+fn join_job<'a>(version: &'static Version, (a, b): (&'a [u8], &'a [u8])) -> Job<'a> {
+    let mut out = vec![0; LONGEST];
+    Box::new(move |calls| repeat_join(version, a, b, &mut out, calls))
+}
+
+fn writer_job(writer: Writer, record: &[u8]) -> Job<'_> {
+    let mut out = vec![0; LONGEST];
+    Box::new(move |calls| repeat_writer(writer, record, &mut out, calls))
+}
+
+/// One job after the other.
+fn together<'a>(jobs: impl Iterator<Item = Job<'a>>) -> Job<'a> {
+    let mut jobs: Vec<Job> = jobs.collect();
+    Box::new(move |calls| jobs.iter_mut().for_each(|job| job(calls)))
+}
+
+/// Times the versions on an input; and on the inputs of each observer alone, if there are any, in the same rounds.
+fn time<'a, R: Copy>(plan: Plan, input: R, alone: &[R], job: impl Fn(&'static Version, R) -> Job<'a>) -> ([Time; 3], Option<[Time; 3]>) {
+    let [x, y, z] = VERSIONS.each_ref().map(|version| job(version, input));
+    if alone.is_empty() {
+        return (race(plan, [x, y, z]), None);
+    }
+    let [p, q, r] = VERSIONS.each_ref().map(|version| together(alone.iter().map(|&input| job(version, input))));
+    let [x, y, z, p, q, r] = race(plan, [x, y, z, p, q, r]);
+    ([x, y, z], Some([p, q, r]))
 }
 
 fn time_checks(plan: Plan, ones: &[One]) -> Vec<Line> {
     heading("check");
-    ones.iter().map(|one| time_one(one, |record| time_check(plan, record))).collect()
+    ones.iter().map(|one| time_one(plan, one, check_job)).collect()
 }
 
 fn time_writer(plan: Plan, title: &str, ones: &[One], writer: fn(&Version) -> Writer) -> Vec<Line> {
     heading(title);
-    let time = |record| {
-        let job = |version| {
-            let mut out = vec![0; LONGEST];
-            move |calls| repeat_writer(writer(version), record, &mut out, calls)
-        };
-        race(plan, VERSIONS.each_ref().map(job))
-    };
-    ones.iter().map(|one| time_one(one, time)).collect()
+    ones.iter().map(|one| time_one(plan, one, |version, record| writer_job(writer(version), record))).collect()
 }
 
-fn time_one<'a>(one: &'a One, time: impl Fn(&'a [u8]) -> [Time; 3]) -> Line {
-    let times = time(&one.record);
-    let alone = sum(one.alone.iter().map(|record| time(record)));
+fn time_one<'a>(plan: Plan, one: &'a One, job: impl Fn(&'static Version, &'a [u8]) -> Job<'a>) -> Line {
+    let alone: Vec<&[u8]> = one.alone.iter().map(|record| &record[..]).collect();
+    let (times, alone) = time(plan, &one.record[..], &alone, job);
     let line = Line { name: one.name(), family: one.family, n: one.n, m: one.m, times, alone };
     show(&line, &one.answer.to_string());
     line
 }
 
-/// The times together, where there are any.
-fn sum(all: impl Iterator<Item = [Time; 3]>) -> Option<[Time; 3]> {
-    let add = |x: Time, y: Time| Time { best: x.best + y.best, median: x.median + y.median };
-    all.reduce(|x, y| std::array::from_fn(|k| add(x[k], y[k])))
-}
-
 fn time_joins(plan: Plan, pairs: &[Pair]) -> Vec<Line> {
     heading("join, and below it its two checks alone");
-    let time = |pair: &Pair| {
-        let times = time_join(plan, &pair.a, &pair.b);
-        let alone = sum(pair.alone.iter().map(|(a, b)| time_join(plan, a, b)));
+    let time_pair = |pair: &Pair| {
+        let alone: Vec<(&[u8], &[u8])> = pair.alone.iter().map(|(a, b)| (&a[..], &b[..])).collect();
+        let (times, alone) = time(plan, (&pair.a[..], &pair.b[..]), &alone, join_job);
         let line = Line { name: pair.name.clone(), family: pair.family, n: pair.n, m: 0, times, alone };
         show(&line, &pair.answer.to_string());
-        let checks = sum([&pair.a, &pair.b].into_iter().map(|record| time_check(plan, record))).unwrap();
-        show_times("  its checks", checks);
+        let checks = |version, (a, b)| together([a, b].into_iter().map(|record| check_job(version, record)));
+        show_times("  its checks", time(plan, (&pair.a[..], &pair.b[..]), &[], checks).0);
         line
     };
-    pairs.iter().map(time).collect()
+    pairs.iter().map(time_pair).collect()
 }
 
 fn heading(title: &str) {

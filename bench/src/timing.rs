@@ -1,5 +1,6 @@
 //! Timing in interleaved rounds, by processor time, so that other processes disturb it less.
 
+use std::hint::black_box;
 use std::time::Duration;
 
 /// Nanoseconds for a call.
@@ -21,7 +22,7 @@ pub fn race<const K: usize>(plan: Plan, mut jobs: [impl FnMut(usize); K]) -> [Ti
     let mut calls = [1; K];
     for (job, calls) in jobs.iter_mut().zip(&mut calls) {
         loop {
-            let spent = timed(job, *calls);
+            let spent = timed(job, *calls, 0);
             if spent >= plan.batch {
                 break;
             }
@@ -30,19 +31,34 @@ pub fn race<const K: usize>(plan: Plan, mut jobs: [impl FnMut(usize); K]) -> [Ti
         }
     }
     let mut samples: [Vec<f64>; K] = std::array::from_fn(|_| Vec::new());
-    for _ in 0..plan.rounds {
+    for round in 0..plan.rounds {
         for k in 0..K {
-            let spent = timed(&mut jobs[k], calls[k]);
+            let spent = timed(&mut jobs[k], calls[k], round % PLACES);
             samples[k].push(spent.as_secs_f64() * 1e9 / calls[k] as f64);
         }
     }
     samples.map(summary)
 }
 
-fn timed(job: &mut impl FnMut(usize), calls: usize) -> Duration {
+/// The rounds begin at so many places in the stack, 1 KB apart. Where the stack lies beside what is read changes the time of a call: a check of
+/// eight states took 410 or 680 ns.
+const PLACES: usize = 4;
+
+fn timed(job: &mut impl FnMut(usize), calls: usize, place: usize) -> Duration {
     let start = now();
-    job(calls);
+    deeper(job, calls, place);
     now() - start
+}
+
+#[inline(never)]
+fn deeper(job: &mut impl FnMut(usize), calls: usize, place: usize) {
+    let mut room = [0_u8; 960];
+    black_box(&mut room);
+    match place {
+        0 => job(calls),
+        _ => deeper(job, calls, place - 1),
+    }
+    black_box(&mut room);
 }
 
 #[repr(C)]

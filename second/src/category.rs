@@ -79,6 +79,18 @@ impl Tally {
     }
 }
 
+/// Names of categories, to which those are added that apply.
+#[derive(Default)]
+pub struct Names(pub Vec<String>);
+
+impl Names {
+    pub fn add(&mut self, applies: bool, name: &str) {
+        if applies {
+            self.0.push(name.to_string());
+        }
+    }
+}
+
 /// First, middle or last among at least three; otherwise none.
 pub fn place(index: usize, count: usize) -> Option<&'static str> {
     if count < 3 {

@@ -1,5 +1,6 @@
 //! Categories of records by their kinds and their lists of observers. Every call that takes a record has them.
 
+use crate::category::Names;
 use crate::check::{self, break_for, Break, Verdict};
 use crate::record::{
     applies, column, fields, incomparable, is_mislabelled, is_misnumbered, longest, observer_levels, read, u16_at,
@@ -175,20 +176,9 @@ pub fn of_record(bytes: &[u8], verdict: Verdict) -> Vec<String> {
     names
 }
 
-/// Names of which those apply that are told to.
-struct Names(Vec<String>);
-
-impl Names {
-    fn add(&mut self, applies: bool, name: &str) {
-        if applies {
-            self.0.push(name.to_string());
-        }
-    }
-}
-
 /// Refusal 3.
 fn kind_names(bytes: &[u8]) -> Vec<String> {
-    let mut names = Names(Vec::new());
+    let mut names = Names::default();
     for form in FORMS {
         let mut of_form = bytes.to_vec();
         of_form[KIND_AT..KIND_AT + 2].copy_from_slice(&form.kind.to_le_bytes());
@@ -208,7 +198,7 @@ fn has_length_of(bytes: &[u8], form: Form, observers: usize) -> bool {
 
 /// A record of kind 1 that might be taken for one of kind 2.
 fn one_observer_names(bytes: &[u8], verdict: Verdict) -> Vec<String> {
-    let mut names = Names(Vec::new());
+    let mut names = Names::default();
     if verdict == Verdict::Refused(5) {
         let fits = has_length_of(bytes, FORMS[1], bytes[FIRST_AT] as usize);
         names.add(fits, "refused 5, kind 1, the length is kind 2's");
@@ -225,7 +215,7 @@ fn refused_names(bytes: &[u8], number: u32) -> Vec<String> {
         return Vec::new();
     }
     let count = if bytes.len() > FIRST_AT { bytes[FIRST_AT] as usize } else { 0 };
-    let mut names = Names(Vec::new());
+    let mut names = Names::default();
     match number {
         4 => {
             names.add(true, "refused 4, kind 2");
@@ -258,7 +248,7 @@ fn size_names(bytes: &[u8], count: usize) -> Vec<String> {
 
 /// Refusal 20.
 fn list_names(bytes: &[u8], count: usize) -> Vec<String> {
-    let mut names = Names(Vec::new());
+    let mut names = Names::default();
     if is_out_of_range(count) {
         names.add(WRONG_COUNTS.contains(&count), &format!("refused 20, count {}", count));
         names.add((6..255).contains(&count), "refused 20, count from 6 to 254");
@@ -279,7 +269,7 @@ fn list_names(bytes: &[u8], count: usize) -> Vec<String> {
 
 /// Observers that do not rise.
 fn order_names(levels: &[u8]) -> Vec<String> {
-    let mut names = Names(Vec::new());
+    let mut names = Names::default();
     let places = |is_so: fn(&u8, &u8) -> bool| -> Vec<usize> {
         (1..levels.len()).filter(|&i| is_so(&levels[i - 1], &levels[i])).collect()
     };
@@ -295,7 +285,7 @@ fn order_names(levels: &[u8]) -> Vec<String> {
 
 /// Refusal 6.
 fn column_names(bytes: &[u8], count: usize) -> Vec<String> {
-    let mut names = Names(Vec::new());
+    let mut names = Names::default();
     let places: Vec<usize> = (0..count).filter(|&i| is_misnumbered(column(bytes, i))).collect();
     if let [i] = places[..] {
         names.add(true, &format!("refused 6, column {} of {} alone", i + 1, count));

@@ -1,6 +1,7 @@
 //! Categories of operations on a shelf by lists of observers, by the checker's own answers.
 
 use crate::answer::Answer;
+use crate::category::Names;
 use crate::category_list::lists_observers;
 use crate::check::{Break, Verdict};
 use crate::join;
@@ -54,20 +55,8 @@ fn longest_name(operation: &str) -> String {
     format!("{}, {} bytes", operation, longest())
 }
 
-pub fn has_several(part: &Part) -> bool {
+fn has_several(part: &Part) -> bool {
     part.observers.len() > 1
-}
-
-/// Names of which those apply that are told to.
-#[derive(Default)]
-struct Names(Vec<String>);
-
-impl Names {
-    fn add(&mut self, applies: bool, name: &str) {
-        if applies {
-            self.0.push(name.to_string());
-        }
-    }
 }
 
 /// Does the record break a rule for another observer than the first?
@@ -105,7 +94,7 @@ pub fn of_load(record: &[u8], answer: Answer, verdict: Verdict, room: usize, no_
     names.0
 }
 
-/// The categories of a hookup of numbers of which one names no part and the other names this one.
+/// The categories of a hookup by the parts that i and j name, of which one at least is missing.
 pub fn of_missing(i: Option<&Part>, j: Option<&Part>) -> Vec<String> {
     let mut names = Names::default();
     names.add(j.is_some_and(has_several), "hookup refused 13 for i, j of several observers");
@@ -113,7 +102,7 @@ pub fn of_missing(i: Option<&Part>, j: Option<&Part>) -> Vec<String> {
     names.0
 }
 
-/// A part on the shelf, and whether a hookup put it there.
+/// A part on the shelf: its number, and whether a hookup put it there.
 pub type Named<'a> = (usize, &'a Part, bool);
 
 /// The categories of a hookup of two parts, given the bytes left for a record.
@@ -173,4 +162,122 @@ pub fn of_clear(held: &[&Part]) -> Vec<String> {
     let mut names = Names::default();
     names.add(held.iter().any(|part| has_several(part)), "clear behind loads, several observers");
     names.0
+}
+
+#[cfg(test)]
+mod tests {
+    use super::*;
+    use crate::category_replay;
+    use crate::examples;
+    use crate::make::Script;
+    use crate::replay;
+
+    /// The categories of this file that a script belongs to, in the order of its operations.
+    fn names_of(script: &Script) -> Vec<String> {
+        let mut found = category_replay::of_replay(&script.bytes, &replay::replay(&script.bytes));
+        found.retain(|name| names().contains(name));
+        found
+    }
+
+    /// P and Q for two observers have 56 and 26 bytes, joined they have 56. P alone would have 52.
+    fn loaded(capacity: usize) -> Script {
+        let mut script = Script::new(capacity);
+        script.clear();
+        script.load(&examples::p_for_two());
+        script.load(&examples::q_for_two());
+        script.hookup(0, 1);
+        script
+    }
+
+    const LOADED: [&str; 2] = ["load, several observers"; 2];
+
+    #[test]
+    fn loads_by_hand() {
+        let unordered = examples::p_for_two_with(&[(11, 0)]);
+        let broken = record::write(&examples::t_for_two([0, 0, 0], [0, 0, 1]));
+        let mut script = Script::new(6 + 56);
+        script.load(&examples::p_for_two());
+        script.load(&unordered);
+        script.load(&examples::p());
+        script.clear();
+        script.load(&examples::p_for_two());
+        script.load(&examples::z_for_two());
+        script.load(&unordered);
+        script.load(&broken);
+        script.load(&examples::p_for_two_with(&[(13, 1)]));
+        script.clear();
+        assert_eq!(
+            names_of(&script),
+            [
+                "load refused 12, several observers, otherwise passes",
+                "load refused 12, several observers, refused 20 too",
+                "load, several observers",
+                "load, several observers, just enough room",
+                "load refused 15, several observers",
+                "load refused 20, no room either",
+                "load breaks at a later observer, no room either",
+                "clear behind loads, several observers",
+            ]
+        );
+        let mut script = Script::new(6 + 55);
+        script.clear();
+        script.load(&examples::p_for_two());
+        let short = ["load refused 15, several observers", "load refused 15, several observers, one byte short"];
+        assert_eq!(names_of(&script), short);
+    }
+
+    #[test]
+    fn hookups_by_hand() {
+        let of = |capacity: usize| names_of(&loaded(capacity))[2..].to_vec();
+        assert_eq!(of(6 + 56 + 26 + 57), [""; 0]);
+        assert_eq!(of(6 + 56 + 26 + 56), ["hookup, several observers, just enough room"]);
+        let no_room = "hookup refused 15, several observers";
+        assert_eq!(of(6 + 56 + 26 + 55), [no_room, "hookup refused 15, several observers, one byte short"]);
+        assert_eq!(of(6 + 56 + 26 + 54), [no_room]);
+        assert_eq!(of(6 + 56 + 26 + 52), [no_room, "hookup refused 15, several observers, room for one column"]);
+        assert_eq!(names_of(&loaded(300))[..2], LOADED);
+    }
+
+    #[test]
+    fn other_operations_by_hand() {
+        let mut script = loaded(300);
+        script.hookup(0, 9);
+        script.hookup(9, 0);
+        script.hookup(0, 0);
+        script.part(0);
+        script.part(2);
+        script.count();
+        script.load(&examples::z());
+        script.count();
+        script.part(3);
+        assert_eq!(
+            names_of(&script)[2..],
+            [
+                "hookup refused 13 for j, i of several observers",
+                "hookup refused 13 for i, j of several observers",
+                "part, several observers",
+                "part, several observers",
+                "part of a joined record, several observers",
+                "count, parts of one observer and of several",
+            ]
+        );
+        // Z for two joins with itself, and so does what comes of it. Then the shelf is full, and Z is of another list.
+        let mut script = Script::new(6 + 3 * 14 + 11);
+        script.clear();
+        script.load(&examples::z_for_two());
+        script.hookup(0, 0);
+        script.hookup(1, 1);
+        script.load(&examples::z());
+        script.hookup(0, 3);
+        assert_eq!(
+            names_of(&script)[1..],
+            [
+                "hookup, several observers, i = j",
+                "hookup, several observers, i = j",
+                "hookup of a joined part, several observers",
+                "hookup of two joined parts, several observers",
+                "hookup refused 9, several observers, no room either",
+            ]
+        );
+    }
 }

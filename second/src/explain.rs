@@ -278,7 +278,7 @@ mod tests {
         assert_eq!(explained(&record::write(&part)), [0, 0, 0, 0, 0, 4096, 0, 1]);
     }
 
-    /// Request k: "The count in f) is that of the observer told, or of the first when the part passes". To the first
+    /// Request k: the count belongs to the observer that a break tells, and to the first one at a pass. To the first
     /// observer T's output is quiet, and its quiet reaches are 0 and 2, 1, 2; to the second one it is not.
     #[test]
     fn numbers_of_several_observers() {

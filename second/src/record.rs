@@ -348,7 +348,7 @@ pub fn refusal_2(bytes: &[u8]) -> bool {
     u32_at(bytes, 0) as usize != bytes.len() - HEADER
 }
 
-/// Refusal 3, request k: a kind not described so far.
+/// Refusal 3, request k: a kind without a form.
 pub fn refusal_3(bytes: &[u8]) -> bool {
     !is_described(u16_at(bytes, KIND_AT))
 }
@@ -676,7 +676,7 @@ mod tests {
         assert_eq!(changed(51, 0x80), Some(8));
     }
 
-    /// Request k: "Refusal 3 is now a kind not described so far".
+    /// Request k: refusal 3 for every kind but 1 and 2.
     #[test]
     fn kinds_not_described() {
         assert_eq!(first_refusal(&examples::p()), None);
@@ -711,7 +711,7 @@ mod tests {
         assert_eq!(examples::z_for(&[0x00, 0x40]), examples::z_for_two());
     }
 
-    /// Request k: "4 + c + cn + 4m + 8mn for count c".
+    /// Request k: a byte for each observer listed, and a column for each.
     #[test]
     fn lengths_of_lists() {
         let length = |observers: usize, n: usize, m: usize| Layout { form: FORMS[1], observers, n, m }.body_length();
@@ -755,7 +755,7 @@ mod tests {
         }
     }
 
-    /// Request k: "observers in strictly rising byte order".
+    /// Request k: each observer's byte is above the one before.
     #[test]
     fn observers_that_do_not_rise() {
         for (levels, refusal) in [
@@ -808,7 +808,7 @@ mod tests {
         assert_eq!(first_refusal(&[0, 0, 0, 0, 2, 0]), Some(4));
     }
 
-    /// Request k: 20 comes after 5 and before 6. Every damage is in place; they are taken away from the first one on.
+    /// Request k: 20 stands between 5 and 6. Every damage is in place; they are taken away from the first one on.
     #[test]
     fn order_of_refusals_of_a_list() {
         let p = examples::p_for_two();
