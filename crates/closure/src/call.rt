@@ -10,8 +10,8 @@ use part::Part;
 use screening::Screening;
 use screening::screen;
 
-// For each observer and each state of the record its silent closure as a set, its visits and their distances, at the start of out, whose later bytes stay; or why not, and then
-// out stays as it was.
+// For each observer and each state of the record its silent closure as a set, its visits and their distances, at the start of out, whose
+// later bytes stay; or why not, and then out stays as it was.
 pub fn list_closures(bytes: &[u8], out: &mut [u8]) -> Listing
     ensures { λ r. ⌜ refusal-of r ≡ refusal (now (bytes .entry)) (length (now (out .entry))) ⌝ }
     ensures { λ r. ⌜ now (out .exit) ≡ buffer-after (refusal-of r) (pieces (now (bytes .entry))) (now (out .entry)) ⌝ }

@@ -30,7 +30,7 @@ use Rattle.part.specs.declared.format.Counts.{Counts}
 use Rattle.part.specs.Frame.{Few}
 use Rattle.part.proofs.Fields.{formed, classes-before}
 use Rattle.screening.specs.Rejections.{too-short, wrong-length, wrong-kind, out-of-range, wrong-size, unnumbered, misnumbered-at, misnumbered}
-use Rattle.screening.specs.Rejections.{falls, miscounted, observer-falls, mislisted, falls-at, unknown-at, misordered-at, misordered, mislabelled-at, mislabelled-observer}
+use Rattle.screening.specs.Rejections.{falls, mislisted, unknown-at, misordered-at, misordered, mislabelled-at, mislabelled-observer}
 use Rattle.screening.specs.Rejections.{mislabelled-part}
 use Rattle.screening.specs.Rejections.{strays-at, row-strays, stray-bit, Accepted}
 use Rattle.part.specs.Events.{kind-of, at-place, place, event-of, Leads}
@@ -223,17 +223,19 @@ module _ (b : List ℕ) (a : Accepted (as-outputs b)) where
   in-size = rw same-length (ap (λ (k : Counts). not (eqb (body-length b) (body-size k))) (sym same-counts))
 
   in-list : mislisted b ≡ mislisted c
-  unfolding mislisted miscounted observer-falls
+  unfolding mislisted
   in-list =
-      let falling = at-each (observer-falls b) (observer-falls c) same-observers (falls-alike same-observer) in
-      rw (same-kind, same-lead) (ap (λ (p : Bool). miscounted b || p) falling)
+      let falling = at-each (falls (observer b)) (falls (observer c)) same-observers (falls-alike same-observer) in
+      let kinds = same-kind in
+      let counts = same-observers in
+      cc
 
   numbered : misnumbered b ≡ misnumbered c
   unfolding misnumbered misnumbered-at
   numbered = at-each _ _ same-observers (λ o h. ap unnumbered (sym (same-column o h)))
 
   in-place : (i : ℕ) → i < events b → misordered-at b i ≡ misordered-at c i
-  unfolding misordered-at falls-at unknown-at
+  unfolding misordered-at unknown-at
   in-place i h = rw (falls-alike same-identifier i h, turned-kind i h, turned-known) refl
 
   ordered : misordered b ≡ misordered c

@@ -1,4 +1,4 @@
-// Check (document 01, "The shelf"; document 02, f).
+// Check (document 01, "The shelf"; document 02, f and k).
 ghost use mathlib.Core.Path.{_≡_};
 ghost use mathlib.Core.Option.{none};
 ghost use Prim.Native.Nat.{_<_};

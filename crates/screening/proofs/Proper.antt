@@ -12,21 +12,22 @@ use borrow.Author.Tests.{le-ltb, lt-leb, eq-eqb}
 use Rattle.bounded.proofs.Search.{any-fails, or-then}
 use Rattle.words.specs.Sets.{exceeds}
 use Rattle.level.specs.Level.{mislabelled}
-use Rattle.part.specs.Format.{max-observers, max-states, max-events, max-event-kind, header}
+use Rattle.part.specs.Format.{max-states, max-events, max-event-kind, header}
 use Rattle.part.specs.Format.{body-size}
-use Rattle.part.specs.Record.{body-length, lead, observer, states, start, events, counts, form-of}
+use Rattle.part.specs.Record.{body-length, observers, observer, states, start, events, counts, form-of}
 use Rattle.part.specs.Record.{column, class, classes-below}
 use Rattle.part.specs.Record.{identifier, event-kind, row}
 use Rattle.screening.specs.Rejections.{too-short, wrong-length, wrong-kind, out-of-range, wrong-size, misnumbered, misnumbered-at}
-use Rattle.screening.specs.Rejections.{unnumbered, skips-at, misordered, misordered-at, falls-at, unknown-at}
+use Rattle.screening.specs.Rejections.{unnumbered, skips-at, misordered, misordered-at, unknown-at}
 use Rattle.screening.specs.Rejections.{mislabelled-part, mislabelled-observer, mislabelled-at, stray-bit, row-strays, strays-at}
-use Rattle.screening.specs.Rejections.{miscounted, observer-falls, mislisted, frame-conditions, NoneOf, Accepted}
+use Rattle.screening.specs.Rejections.{falls, mislisted, frame-conditions, NoneOf, Accepted}
 use Rattle.part.specs.Layout.{Fields, shape, counts-of, layout}
 use Rattle.part.specs.declared.format.Counts.{Counts}
 use Rattle.part.specs.declared.format.Form.{Form}
 use Rattle.part.specs.Frame.{Few, fields-of}
 use Rattle.part.proofs.Fields.{Described, form-allowed, few-rows, few-classes, level-inside, column-size}
-use Rattle.screening.proofs.Rejections.{kind-one, kind-other, no-count, last-count-test, last-range-test, framed, not-falling}
+use Rattle.screening.proofs.Rejections.{kind-one, kind-other, no-list, last-list-test, first-counts, last-range-test, framed}
+use Rattle.screening.proofs.Rejections.{not-falling}
 use Rattle.screening.proofs.Ranges.{class-counted}
 use Rattle.screening.proofs.LayoutLaws.{Agree, level-in, level-read, level-agree}
 use Rattle.screening.proofs.ReadBack.{Fits, length-layout, read-kind, read-lead, read-counts, read-length, read-back}
@@ -161,26 +162,24 @@ module _ (f : Fields) (p : Proper f) where
   level-back o l =
       level-read (layout f) o (subst (λ (w : Form). o < w .observers) (sym form-read) l) ∙ level-agree _ f agree o l
 
-  counted : miscounted (layout f) ≡ false
-  counted =
-      let read = read-kind f (proper-fits f p) in
-      let first = read-lead f (proper-fits f p) in
-      ⊎-elim
-      (λ e. no-count (layout f) (λ q. omega arith))
-      (λ w.
-      last-count-test (layout f) (read ∙ w .kind-is) (omega (arith, w .least))
-      ∙ le-ltb max-observers (lead (layout f)) (omega (arith, w .most)))
-      (p .described)
+  count-back : observers (layout f) ≡ shape f .observers
+  count-back = ap (λ (w : Form). w .observers) form-read
 
   well-listed : mislisted (layout f) ≡ false
-  unfolding mislisted observer-falls
   well-listed =
-      or-then _ _ counted
+      let read = read-kind f (proper-fits f p) in
+      ⊎-elim
+      (λ e. no-list (layout f) (λ q. omega arith))
+      (λ w.
+      let several = read ∙ w .kind-is in
+      let count = first-counts (layout f) several ∙ read-lead f (proper-fits f p) in
+      last-list-test (layout f) several (omega (arith, w .least)) (omega (arith, w .most))
       ∙ any-fails _ _
-      (λ o l.
-      not-falling (observer (layout f)) (shape f .observers)
-      (λ i h. rw (level-back i (omega arith), level-back (suc i) h) (p .observers-rise i h)) o
-      (subst (λ (w : Form). o < w .observers) form-read l))
+      (not-falling (observer (layout f)) (observers (layout f))
+      (λ i h.
+      rw (level-back i (omega (arith, count-back)), level-back (suc i) (omega (arith, count-back)))
+      (p .observers-rise i (omega (arith, count-back))))))
+      (p .described)
 
   frame-clear : NoneOf frame-conditions (layout f)
   frame-clear = search (long-enough, length-right, kind-right, in-range, size-right, well-listed)
@@ -196,8 +195,7 @@ module _ (f : Fields) (p : Proper f) where
       let size = column-size _ o (framed _ frame-clear) has in
       any-fails _ _ (λ s l. le-ltb _ _ (class-step o s here (omega arith))))
 
-  rising : (i : ℕ) → i < events (layout f) → falls-at (layout f) i ≡ false
-  unfolding falls-at
+  rising : (i : ℕ) → i < events (layout f) → falls (identifier (layout f)) i ≡ false
   rising =
       let m : events (layout f) ≡ f .table .events = agree .tables .event-counts in
       not-falling (identifier (layout f)) (events (layout f))

@@ -20,13 +20,13 @@ use Rattle.part.specs.Record.{observers, observer, states, events, form-of, col
 use Rattle.part.specs.Record.{level, row}
 use Rattle.part.specs.Frame.{Framed}
 use Rattle.screening.specs.Rejections.{Accepted, misnumbered, misnumbered-at, unnumbered, skips-at, misordered, misordered-at}
-use Rattle.screening.specs.Rejections.{observer-falls, falls-at, unknown-at, mislabelled-part, mislabelled-observer, mislabelled-at, stray-bit}
+use Rattle.screening.specs.Rejections.{falls, unknown-at, mislabelled-part, mislabelled-observer, mislabelled-at, stray-bit}
 use Rattle.screening.specs.Rejections.{row-strays, strays-at}
 use Rattle.screening.specs.MachineFacts.{start-below}
 use Rattle.screening.specs.Theorems.{Ranges}
 use Rattle.screening.proofs.Accepted.{in-frame, not-misnumbered, not-misordered, not-mislabelled, not-stray}
 use Rattle.part.proofs.Fields.{own-columns, level-inside, column-size}
-use Rattle.screening.proofs.Rejections.{framed, observer-above, rises-unless}
+use Rattle.screening.proofs.Rejections.{framed, levels-rise, rises-unless}
 use Rattle.part.proofs.Rising.{Rises}
 
 -- ---- the number of classes so far
@@ -90,19 +90,15 @@ module _ (b : List ℕ) (a : Accepted b) where
   in-place = any-none _ _ (not-misordered b a)
 
   identifiers-rise : Rises (identifier b) (events b)
-  unfolding misordered-at falls-at
+  unfolding misordered-at
   identifiers-rise =
       rises-unless (identifier b) (events b) (λ i h. or-left _ (unknown-at b i) (in-place i h))
 
   kinds : (i : ℕ) → i < events b → event-kind b i ≤ max-event-kind
   unfolding misordered-at unknown-at
-  kinds i h = ltb-false _ _ (or-right (falls-at b i) _ (in-place i h))
+  kinds i h = ltb-false _ _ (or-right (falls (identifier b) i) _ (in-place i h))
 
   -- ---- the levels
-
-  observers-rise : Rises (observer b) (observers b)
-  unfolding observer-falls
-  observers-rise = rises-unless (observer b) (observers b) (observer-above b (in-frame b a))
 
   pub observer-labelled : (o : ℕ) → o < observers b → mislabelled (observer b o) ≡ false
   unfolding mislabelled-part mislabelled-observer
@@ -141,7 +137,7 @@ ranges b a = record {
   whole = frame b a .whole;
   some-observer = frame b a .some-observer;
   most-observers = omega (arith, own-columns b, frame b a .narrow .columns);
-  observers-rise = observers-rise b a;
+  observers-rise = levels-rise b (in-frame b a);
   class-below = λ o s l h. omega (arith, class-step b a o s l h, classes-few b a o s l (omega arith));
   class-first = λ o l. omega (arith, class-step b a o 0 l (frame b a .one-state), classes-few b a o 0 l (omega arith));
   class-next = λ o s l h.

@@ -1,6 +1,6 @@
 -- What each condition that does not hold tells of the record, and the tests of condition 4.
 use Prim.Native.Nat.{ℕ, zero, suc, _-_, _≤_, _<_}
-use mathlib.Core.Path.{_≡_, refl, sym, _∙_}
+use mathlib.Core.Path.{_≡_, refl, sym, ap, _∙_}
 use mathlib.Core.Bool.{true, false, not, _||_}
 use mathlib.Core.Logic.{_⊎_, inl, inr, ⊎-elim}
 use mathlib.Core.List.{List}
@@ -11,15 +11,37 @@ use borrow.Author.Tests.{ltb-false, leb-false, eqb-true, eq-eqb, ne-eqb, not-fal
 use Rattle.bounded.specs.Search.{any}
 use Rattle.bounded.proofs.Search.{or-left, or-right, or-then, is-true, true-or-false, any-none}
 use Rattle.part.specs.Format.{single-kind, several-kind, least-listed, max-observers, max-states, max-events, lists-at, body-size}
-use Rattle.part.specs.Record.{body-length, kind, lead, observers, states, start, events, counts}
+use Rattle.part.specs.Record.{body-length, kind, lead, observers, observer, states, start, events, counts}
+use Rattle.part.specs.declared.format.Form.{Form}
 use Rattle.part.specs.Frame.{Framed}
-use Rattle.part.proofs.Fields.{Several, Described, form-allowed}
+use Rattle.part.proofs.Fields.{Described, form-one, form-several, form-allowed}
 use Rattle.part.proofs.Rising.{Rises, rises}
 use Rattle.screening.specs.Rejections.{too-short, wrong-length, wrong-kind, out-of-range, wrong-size}
-use Rattle.screening.specs.Rejections.{falls, miscounted, observer-falls, mislisted}
+use Rattle.screening.specs.Rejections.{falls, mislisted}
 use Rattle.screening.specs.Rejections.{frame-conditions, NoneOf}
 use Rattle.screening.proofs.Accepted.{not-too-short, not-wrong-length, not-wrong-kind, not-out-of-range, not-wrong-size}
 use Rattle.screening.proofs.Accepted.{not-mislisted}
+
+-- 20 and 7 ask nothing of the first number of a sequence, and of each other one that it is above the one before it.
+module _ (f : ℕ → ℕ) where
+  pub falls-first : (i : ℕ) → i ≡ 0 → falls f i ≡ false
+  unfolding falls
+  falls-first i e = rw e refl
+
+  pub falls-later : (i this last : ℕ) → (i ≡ 0 → ⊥) → this ≡ f i → last ≡ f (i - 1) → leb this last ≡ falls f i
+  unfolding falls
+  falls-later zero this last n e d = absurd (n refl)
+  falls-later (suc i) this last n e d = let back : suc i - 1 ≡ i = omega arith in rw (e, d, back) refl
+
+  -- where none falls, they rise; and the other way round
+  pub rises-unless : (n : ℕ) → ((i : ℕ) → i < n → falls f i ≡ false) → Rises f n
+  unfolding falls
+  rises-unless n up = rises f n (λ i h. leb-false _ _ (up (suc i) h))
+
+  pub not-falling : (n : ℕ) → ((i : ℕ) → suc i < n → f i < f (suc i)) → (i : ℕ) → i < n → falls f i ≡ false
+  unfolding falls
+  not-falling n up zero h = refl
+  not-falling n up (suc i) h = lt-leb _ _ (up i h)
 
 module _ (b : List ℕ) where
   pub long : too-short b ≡ false → 6 ≤ length b
@@ -71,7 +93,7 @@ module _ (b : List ℕ) where
       (λ f. inr (eqb-true _ _ (sym (or-then _ _ f) ∙ not-false _ e)))
       (true-or-false (eqb (kind b) single-kind))
 
-  -- The tests of 3, one by one, and those of the count in 20.
+  -- The tests of 3, one by one, and those of 20.
   pub kind-one : kind b ≡ single-kind → wrong-kind b ≡ false
   unfolding wrong-kind
   kind-one e = rw (eq-eqb (kind b) single-kind e)
@@ -80,42 +102,70 @@ module _ (b : List ℕ) where
   unfolding wrong-kind
   kind-other n = rw (ne-eqb (kind b) single-kind n)
 
-  pub no-count : (kind b ≡ several-kind → ⊥) → miscounted b ≡ false
-  unfolding miscounted
-  no-count n = rw (ne-eqb (kind b) several-kind n)
+  pub no-list : (kind b ≡ several-kind → ⊥) → mislisted b ≡ false
+  unfolding mislisted
+  no-list n = rw (ne-eqb (kind b) several-kind n)
 
-  pub low-count : kind b ≡ several-kind → lead b < least-listed → miscounted b ≡ true
-  unfolding miscounted
-  low-count e l = rw (eq-eqb (kind b) several-kind e, lt-ltb (lead b) least-listed l)
+  module _ (e : kind b ≡ several-kind) where
+    pub too-few : observers b < least-listed → mislisted b ≡ true
+    unfolding mislisted
+    too-few l = rw (eq-eqb (kind b) several-kind e, lt-ltb (observers b) least-listed l)
 
-  pub last-count-test : kind b ≡ several-kind → least-listed ≤ lead b → miscounted b ≡ ltb max-observers (lead b)
-  unfolding miscounted
-  last-count-test e l = rw (eq-eqb (kind b) several-kind e, le-ltb (lead b) least-listed l)
+    pub too-many : least-listed ≤ observers b → max-observers < observers b → mislisted b ≡ true
+    unfolding mislisted
+    too-many l m =
+        rw (
+          eq-eqb (kind b) several-kind e,
+          le-ltb (observers b) least-listed l,
+          lt-ltb max-observers (observers b) m,
+        )
 
-  -- What 20 leaves of the count: kind 2 has two to four observers.
-  pub described : wrong-kind b ≡ false → miscounted b ≡ false → Described (kind b) (lead b)
-  unfolding miscounted
-  described e f = ⊎-elim inl (λ q. inr (several q)) (kind-is e)
-    where
-      several : kind b ≡ several-kind → Several (kind b) (lead b)
-      several q =
-          let out : (ltb (lead b) least-listed || ltb max-observers (lead b)) ≡ false = rw (eq-eqb _ _ q) at f in
-          record {
-            kind-is = q;
-            least = ltb-false _ _ (or-left _ (ltb max-observers (lead b)) out);
-            most = ltb-false _ _ (or-right (ltb (lead b) least-listed) _ out);
-          }
+    pub last-list-test : least-listed ≤ observers b → observers b ≤ max-observers
+        → mislisted b ≡ any (observers b) (falls (observer b))
+    unfolding mislisted
+    last-list-test l m =
+        rw (
+          eq-eqb (kind b) several-kind e,
+          le-ltb (observers b) least-listed l,
+          le-ltb max-observers (observers b) m,
+        )
 
-  -- 1 to 5 do not hold, and the count of the observers is in its range.
-  pub framed-by : too-short b ≡ false → wrong-length b ≡ false → wrong-kind b ≡ false → out-of-range b ≡ false
-      → wrong-size b ≡ false → miscounted b ≡ false → Framed b
+    -- the first byte is the number of the observers
+    pub first-counts : observers b ≡ lead b
+    first-counts = ap (λ (f : Form). f .observers) (form-several (kind b) (lead b) e)
+
+    pub several-described : least-listed ≤ observers b → observers b ≤ max-observers → Described (kind b) (lead b)
+    several-described l m =
+        inr (record { kind-is = e; least = omega (arith, first-counts); most = omega (arith, first-counts) })
+
+    -- what 20 leaves: two to four observers, whose levels rise
+    record Listed : Type 0 where
+      least : least-listed ≤ observers b
+      most : observers b ≤ max-observers
+      up : Rises (observer b) (observers b)
+
+    listed : mislisted b ≡ false → Listed
+    unfolding mislisted
+    listed f =
+        let out : (ltb (observers b) least-listed || ltb max-observers (observers b)
+        || any (observers b) (falls (observer b))) ≡ false = rw (eq-eqb (kind b) several-kind e) at f in
+        record {
+          least = search (out, or-left, ltb-false);
+          most = search (out, or-left, or-right, ltb-false);
+          up = rises-unless _ _ (any-none _ _ (or-right (ltb (observers b) least-listed
+              || ltb max-observers (observers b)) _ out));
+        }
+
+  -- 1 to 5 do not hold, and the kind has such a first byte.
+  pub framed-by : too-short b ≡ false → wrong-length b ≡ false → out-of-range b ≡ false
+      → wrong-size b ≡ false → Described (kind b) (lead b) → Framed b
   unfolding wrong-size
-  framed-by e1 e2 e3 e4 e5 e20 =
+  framed-by e1 e2 e4 e5 known =
       let six = long e1 in
       let after = rest e2 in
       let size : body-length b ≡ body-size (counts b) = eqb-true _ _ (not-false _ e5) in
       let c = ranged e4 in
-      let form = form-allowed (kind b) (lead b) (described e3 e20) in
+      let form = form-allowed (kind b) (lead b) known in
       record {
         whole = omega arith;
         one-state = c .one-state;
@@ -130,39 +180,24 @@ module _ (b : List ℕ) where
       }
 
 module _ (b : List ℕ) (a : NoneOf frame-conditions b) where
-  -- the count of the observers is in its range, and their levels rise
-  counted : miscounted b ≡ false
-  unfolding mislisted
-  counted = or-left _ (any (observers b) (observer-falls b)) (not-mislisted b a)
-
-  pub observer-above : (o : ℕ) → o < observers b → observer-falls b o ≡ false
-  unfolding mislisted
-  observer-above = any-none _ _ (or-right (miscounted b) _ (not-mislisted b a))
+  list-in-order : (e : kind b ≡ several-kind) → Listed b e
+  list-in-order e = listed b e (not-mislisted b a)
 
   pub well-described : Described (kind b) (lead b)
-  well-described = described b (not-wrong-kind b a) counted
+  well-described =
+      ⊎-elim inl
+      (λ e. several-described b e (list-in-order e .least) (list-in-order e .most))
+      (kind-is b (not-wrong-kind b a))
+
+  -- the levels rise; that of an only observer does
+  pub levels-rise : Rises (observer b) (observers b)
+  levels-rise =
+      ⊎-elim
+      (λ e i j l h.
+      absurd (let one = ap (λ (f : Form). f .observers) (form-one (kind b) (lead b) e) in omega arith))
+      (λ e. list-in-order e .up)
+      (kind-is b (not-wrong-kind b a))
 
   pub framed : Framed b
-  framed = framed-by b (not-too-short b a) (not-wrong-length b a) (not-wrong-kind b a) (not-out-of-range b a)
-      (not-wrong-size b a) counted
-
--- 20 and 7 ask nothing of the first number of a sequence, and of each other one that it is above the one before it.
-module _ (f : ℕ → ℕ) where
-  pub falls-first : (i : ℕ) → i ≡ 0 → falls f i ≡ false
-  unfolding falls
-  falls-first i e = rw e refl
-
-  pub falls-later : (i this last : ℕ) → (i ≡ 0 → ⊥) → this ≡ f i → last ≡ f (i - 1) → leb this last ≡ falls f i
-  unfolding falls
-  falls-later zero this last n e d = absurd (n refl)
-  falls-later (suc i) this last n e d = let back : suc i - 1 ≡ i = omega arith in rw (e, d, back) refl
-
-  -- where none falls, they rise; and the other way round
-  pub rises-unless : (n : ℕ) → ((i : ℕ) → i < n → falls f i ≡ false) → Rises f n
-  unfolding falls
-  rises-unless n up = rises f n (λ i h. leb-false _ _ (up (suc i) h))
-
-  pub not-falling : (n : ℕ) → ((i : ℕ) → suc i < n → f i < f (suc i)) → (i : ℕ) → i < n → falls f i ≡ false
-  unfolding falls
-  not-falling n up zero h = refl
-  not-falling n up (suc i) h = lt-leb _ _ (up i h)
+  framed = framed-by b (not-too-short b a) (not-wrong-length b a) (not-out-of-range b a) (not-wrong-size b a)
+      well-described

@@ -2,7 +2,7 @@
 use Prim.Native.Nat.{ℕ}
 use mathlib.Core.Bool.{Bool}
 use mathlib.Core.List.{List}
-use Rattle.part.specs.Record.{observers, events}
+use Rattle.part.specs.Record.{observers, observer, events}
 use Rattle.screening.specs.declared.rejection.Fault.{Fault}
 use Rattle.screening.specs.declared.rejection.Fault.the-variants.{
   FallingObserver,
@@ -12,7 +12,7 @@ use Rattle.screening.specs.declared.rejection.Fault.the-variants.{
   Mislabelled,
   StrayBit,
 }
-use Rattle.screening.specs.Rejections.{observer-falls, misnumbered-at, mislabelled-observer, misordered-at, mislabelled-at, row-strays}
+use Rattle.screening.specs.Rejections.{falls, misnumbered-at, mislabelled-observer, misordered-at, mislabelled-at, row-strays}
 
 -- How many there are of what a condition asks about: observers or events.
 abbrev pub candidates : Fault → List ℕ → ℕ
@@ -25,7 +25,7 @@ candidates StrayBit = events
 
 -- Observer i, or the event at place i, has the fault that a condition asks about.
 abbrev pub has-fault : Fault → List ℕ → ℕ → Bool
-has-fault FallingObserver = observer-falls
+has-fault FallingObserver = λ b. falls (observer b)
 has-fault Misnumbered = misnumbered-at
 has-fault MislabelledObserver = mislabelled-observer
 has-fault Misordered = misordered-at

@@ -11,7 +11,7 @@ use Rattle.words.specs.Sets.{exceeds}
 use Rattle.words.specs.LittleEndian.{byte}
 use Rattle.level.specs.Level.{mislabelled}
 use Rattle.part.specs.Format.{max-states, max-events, single-kind, several-kind, least-listed, max-observers, max-event-kind, header, body-size}
-use Rattle.part.specs.Record.{body-length, kind, lead, observer, states, start, events, counts, observers, column, classes-below, identifier, event-kind, level, row}
+use Rattle.part.specs.Record.{body-length, kind, observer, states, start, events, counts, observers, column, classes-below, identifier, event-kind, level, row}
 
 -- 1: fewer than six bytes.
 unfoldable pub too-short : List ℕ → Bool
@@ -43,17 +43,11 @@ unfoldable pub falls : (ℕ → ℕ) → ℕ → Bool
 falls f zero = false
 falls f (suc i) = leb (f (suc i)) (f i)
 
--- Kind 2 has fewer than two observers, or more than four.
-unfoldable pub miscounted : List ℕ → Bool
-miscounted b = eqb (kind b) several-kind && (ltb (lead b) least-listed || ltb max-observers (lead b))
-
--- The level of observer o is not above the one before it.
-unfoldable pub observer-falls : List ℕ → ℕ → Bool
-observer-falls b o = falls (observer b) o
-
--- 20: the count of the observers is outside its range, or their levels do not rise.
+-- 20: the kind is 2, and there are fewer than two observers, or more than four, or their levels do not rise.
 unfoldable pub mislisted : List ℕ → Bool
-mislisted b = miscounted b || any (observers b) (observer-falls b)
+mislisted b =
+    eqb (kind b) several-kind
+    && (ltb (observers b) least-listed || ltb max-observers (observers b) || any (observers b) (falls (observer b)))
 
 -- In a column the class of state s is more than one above the largest before it (above 0 for state 0).
 unfoldable pub skips-at : List ℕ → ℕ → Bool
@@ -70,17 +64,13 @@ misnumbered-at b o = unnumbered (column b o)
 unfoldable pub misnumbered : List ℕ → Bool
 misnumbered b = any (observers b) (misnumbered-at b)
 
--- The identifier at place i is not above the one before it.
-unfoldable pub falls-at : List ℕ → ℕ → Bool
-falls-at b i = falls (identifier b) i
-
 -- The kind of the event at place i is above 2.
 unfoldable pub unknown-at : List ℕ → ℕ → Bool
 unknown-at b i = ltb max-event-kind (event-kind b i)
 
--- One of these holds of the event at place i.
+-- The identifier at place i is not above the one before it, or the event's kind is above 2.
 unfoldable pub misordered-at : List ℕ → ℕ → Bool
-misordered-at b i = falls-at b i || unknown-at b i
+misordered-at b i = falls (identifier b) i || unknown-at b i
 
 -- 7: the identifiers do not rise, or an event's kind is above 2.
 unfoldable pub misordered : List ℕ → Bool

@@ -1,14 +1,12 @@
 // The rejections of a record, in order (specs/Rejections.antt): one function for each condition, and two cascades.
 ghost use mathlib.Core.Path.{_≡_};
-ghost use Prim.Native.Nat.{_+_, _<_, _≤_};
-ghost use lib.ListN.{length};
+ghost use Prim.Native.Nat.{_+_, _<_};
 ghost use mathlib.Core.Bool.{false};
-ghost use Rattle.part.specs.Format.{lists-at};
-ghost use Rattle.part.specs.Record.{observers, states, events};
+ghost use Rattle.part.specs.Record.{observers, observer, states, events, identifier};
 ghost use Rattle.bounded.specs.Search.{any};
 ghost use Rattle.part.specs.Frame.{Framed};
 ghost use Rattle.screening.specs.Faults.{candidates, has-fault};
-ghost use Rattle.screening.specs.Rejections.{too-short, wrong-length, wrong-kind, out-of-range, wrong-size, miscounted, observer-falls, mislisted, unnumbered, falls-at, misordered-at, mislabelled-part, row-strays, stray-bit, frame-conditions, content-conditions, first-of, rejection};
+ghost use Rattle.screening.specs.Rejections.{too-short, wrong-length, wrong-kind, out-of-range, wrong-size, falls, mislisted, unnumbered, misordered-at, mislabelled-part, row-strays, stray-bit, frame-conditions, content-conditions, first-of, rejection};
 ghost use Rattle.screening.specs.Answers.{number-of, rejection-of};
 use crate::answer::Rejection;
 use crate::answer::Screening;
@@ -110,26 +108,11 @@ fn wrong_size(b: &[u8]) -> bool
     Part::body_length(b) != counts.body_size()
 }
 
-// The count of the observers is outside its range.
-fn miscounted(b: &[u8]) -> bool
-    requires { ⌜ lists-at ≤ length (now b) ⌝ }
-    ensures { λ r. ⌜ r ≡ miscounted (now (b .entry)) ⌝ }
-{
-    if Part::kind(b) != Part::SEVERAL {
-        return false;
-    }
-    let count = Part::lead(b);
-    if count < Part::LEAST_LISTED {
-        return true;
-    }
-    Part::OBSERVERS < count
-}
-
 // The level of observer o is not above the one before it.
 fn observer_falls(b: &[u8], o: usize) -> bool
     requires { ⌜ Framed (now b) ⌝ }
     requires { ⌜ o < observers (now b) ⌝ }
-    ensures { λ r. ⌜ r ≡ observer-falls (now (b .entry)) o ⌝ }
+    ensures { λ r. ⌜ r ≡ falls (observer (now (b .entry))) o ⌝ }
 {
     if o == 0 {
         return false;
@@ -155,10 +138,10 @@ fn unnumbered(column: &[u8]) -> bool
 }
 
 // The identifier at place i is not above the one before it.
-fn falls_at(b: &[u8], i: usize) -> bool
+fn identifier_falls(b: &[u8], i: usize) -> bool
     requires { ⌜ Framed (now b) ⌝ }
     requires { ⌜ i < events (now b) ⌝ }
-    ensures { λ r. ⌜ r ≡ falls-at (now (b .entry)) i ⌝ }
+    ensures { λ r. ⌜ r ≡ falls (identifier (now (b .entry))) i ⌝ }
 {
     if i == 0 {
         return false;
@@ -172,7 +155,7 @@ fn misordered_at(b: &[u8], i: usize) -> bool
     requires { ⌜ i < events (now b) ⌝ }
     ensures { λ r. ⌜ r ≡ misordered-at (now (b .entry)) i ⌝ }
 {
-    if falls_at(b, i) {
+    if identifier_falls(b, i) {
         return true;
     }
     Part::EVENT_KIND < Part::event_kind(b, i)
@@ -229,15 +212,22 @@ fn some_fault(b: &[u8], count: usize, fault: Fault) -> bool
 fn mislisted(b: &[u8]) -> bool
     requires { ⌜ too-short (now b) ≡ false ⌝ }
     requires { ⌜ wrong-length (now b) ≡ false ⌝ }
-    requires { ⌜ wrong-kind (now b) ≡ false ⌝ }
     requires { ⌜ out-of-range (now b) ≡ false ⌝ }
     requires { ⌜ wrong-size (now b) ≡ false ⌝ }
     ensures { λ r. ⌜ r ≡ mislisted (now (b .entry)) ⌝ }
 {
-    if miscounted(b) {
+    if Part::kind(b) != Part::SEVERAL {
+        return false;
+    }
+    let form = Part::form(b);
+    let count = form.observers;
+    if count < Part::LEAST_LISTED {
         return true;
     }
-    some_fault(b, Part::observers(b), Fault::FallingObserver)
+    if Part::OBSERVERS < count {
+        return true;
+    }
+    some_fault(b, count, Fault::FallingObserver)
 }
 
 fn mislabelled(b: &[u8]) -> bool

@@ -21,7 +21,7 @@ observers-requires : tie.Need-observers-requires Inv-loop μ-loop
 observers-requires c κs = frame _ (c .before .before .pre .0)
 
 observers-requires-2 : tie.Need-observers-requires-2 Inv-loop μ-loop
-observers-requires-2 c κs = frame _ (c .before .before .before .pre .1)
+observers-requires-2 c κs = let pre = c .before .before .before .pre in search (frame _ (pre .0), frame _ (pre .1))
 
 returns : tie.Need-returns Inv-loop μ-loop
 returns c =

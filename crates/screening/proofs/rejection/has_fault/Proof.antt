@@ -1,8 +1,8 @@
-use Prim.Native.Nat.{ℕ, _<_}
+use Prim.Native.Nat.{_<_}
 use mathlib.Core.Path.{_≡_}
-use mathlib.Core.List.{List}
 use denote.Ref.{now}
 use borrow.Author.Needs.{needs}
+use Rattle.part.specs.Frame.{Framed}
 use Rattle.screening.specs.declared.rejection.Fault.{Fault}
 use Rattle.screening.specs.Faults.{candidates}
 use Rattle.screening.specs.Rejections.{misnumbered-at, mislabelled-observer, mislabelled-at}
@@ -10,26 +10,24 @@ use Rattle.part.proofs.Fields.{level-inside}
 use Rattle.screening.proofs.rejection.has_fault.Statement.{statement}
 use Rattle.screening.proofs.rejection.has_fault.Tie as tie
 
--- there are as many as the fault is asked of
-told : {f g : Fault} (b : List ℕ) {i : ℕ} → f ≡ g → i < candidates f b → i < candidates g b
-told b e h = rw e at h
+-- the record can be read, and there are as many as the fault that is told is asked of
+asked : (start : tie.Start) {told : Fault} → start .args .fault ≡ told
+    → Framed (now (start .args .b)) × (start .args .i < candidates told (now (start .args .b)))
+asked start e = (start .pre .0, rw e at (start .pre .1))
 
 enum-told : tie.Need-enum-told
 enum-told c = search needs
 
 observer-falls-requires : tie.Need-observer-falls-requires
-observer-falls-requires c κs =
-    let start = c .before .before .before in
-    (start .pre .0, told (now (start .args .b)) (c .enum-told .given .1) (start .pre .1))
+observer-falls-requires c κs = asked (c .before .before .before) (c .enum-told .given .1)
 
 enum-told-2 : tie.Need-enum-told-2
 enum-told-2 c = search needs
 
 column-requires : tie.Need-column-requires
 column-requires c κs =
-    let start = c .before .before .before in
-    let here = told (now (start .args .b)) (c .enum-told2 .given .1) (start .pre .1) in
-    (start .pre .0, level-inside _ _ (start .pre .0) here .1)
+    let (readable, here) = asked (c .before .before .before) (c .enum-told2 .given .1) in
+    (readable, level-inside _ _ readable here .1)
 
 unnumbered-requires : tie.Need-unnumbered-requires
 unnumbered-requires c κs = search needs
@@ -38,9 +36,7 @@ enum-told-3 : tie.Need-enum-told-3
 enum-told-3 c = search needs
 
 observer-requires : tie.Need-observer-requires
-observer-requires c κs =
-    let start = c .before .before .before in
-    (start .pre .0, told (now (start .args .b)) (c .enum-told3 .given .1) (start .pre .1))
+observer-requires c κs = asked (c .before .before .before) (c .enum-told3 .given .1)
 
 is-mislabelled-requires : tie.Need-is-mislabelled-requires
 is-mislabelled-requires c κs = search needs
@@ -49,17 +45,13 @@ enum-told-4 : tie.Need-enum-told-4
 enum-told-4 c = search needs
 
 misordered-at-requires : tie.Need-misordered-at-requires
-misordered-at-requires c κs =
-    let start = c .before .before .before in
-    (start .pre .0, told (now (start .args .b)) (c .enum-told4 .given .1) (start .pre .1))
+misordered-at-requires c κs = asked (c .before .before .before) (c .enum-told4 .given .1)
 
 enum-told-5 : tie.Need-enum-told-5
 enum-told-5 c = search needs
 
 level-requires : tie.Need-level-requires
-level-requires c κs =
-    let start = c .before .before .before in
-    (start .pre .0, told (now (start .args .b)) (c .enum-told5 .given .1) (start .pre .1))
+level-requires c κs = asked (c .before .before .before) (c .enum-told5 .given .1)
 
 is-mislabelled-requires-2 : tie.Need-is-mislabelled-requires-2
 is-mislabelled-requires-2 c κs = search needs
@@ -68,9 +60,7 @@ enum-told-6 : tie.Need-enum-told-6
 enum-told-6 c = search needs
 
 row-strays-requires : tie.Need-row-strays-requires
-row-strays-requires c κs =
-    let start = c .before .before .before in
-    (start .pre .0, told (now (start .args .b)) (c .enum-told6 .given .1) (start .pre .1))
+row-strays-requires c κs = asked (c .before .before .before) (c .enum-told6 .given .1)
 
 returns : tie.Need-returns
 returns c = rw (c .before .enum-told .given .1) (c .observer-falls .ensures)

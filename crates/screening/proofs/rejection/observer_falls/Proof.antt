@@ -1,13 +1,11 @@
 use mathlib.Core.Path.{sym}
 use native.Mathlib.Omega.{arith}
 use borrow.Author.Needs.{needs}
-use Rattle.screening.specs.Rejections.{observer-falls}
 use Rattle.screening.proofs.Rejections.{falls-first, falls-later}
 use Rattle.screening.proofs.rejection.observer_falls.Statement.{statement}
 use Rattle.screening.proofs.rejection.observer_falls.Tie as tie
 
 returns : tie.Need-returns
-unfolding observer-falls
 returns c = sym (falls-first _ _ (c .if1 .taken))
 
 observer-requires : tie.Need-observer-requires
@@ -20,7 +18,6 @@ observer-requires-2 : tie.Need-observer-requires-2
 observer-requires-2 c κs = (c .before .before .before .pre .0, omega arith)
 
 returns-2 : tie.Need-returns-2
-unfolding observer-falls
 returns-2 c =
     falls-later _ _ _ _ (c .before .before .if1 .left) (c .before .observer .ensures) (c .observer2 .ensures)
 

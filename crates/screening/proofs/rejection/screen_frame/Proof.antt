@@ -76,7 +76,7 @@ unfolding rejection-of
 returns-5 c = sym (past-4 (c .before .before) ∙ hit _ _ _ cc)
 
 mislisted-requires : tie.Need-mislisted-requires
-mislisted-requires c κs = ((cc), ((cc), ((cc), ((cc), (cc)))))
+mislisted-requires c κs = ((cc), ((cc), ((cc), (cc))))
 
 returns-6 : tie.Need-returns-6
 unfolding rejection-of
