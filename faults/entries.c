@@ -1,8 +1,8 @@
 /* Calls the C entries on the records in the files that are named, each in a buffer of exactly its size, so that a tool that watches
  * memory sees every byte read or written outside. Joins each record with the one before it and with itself, and writes its closures and its
- * explanation, into buffers of several sizes. Where it is not refused, mislabels its first level and then its last, and where it lists
- * observers gives the last of them the level of the one before it: each call has to refuse that. Among them must be records of both
- * kinds that join. */
+ * explanation, into buffers of several sizes. Where it is not refused, mislabels its first level and then its last, where it lists
+ * observers gives the last of them the level of the one before it, and where the part is limited gives its first state the fine class 1:
+ * each call has to refuse that. Among them must be records of each kind that join. */
 #include <inttypes.h>
 #include <stdbool.h>
 #include <stdio.h>
@@ -69,8 +69,8 @@ static void expect(uint32_t wanted, uint32_t answer, const char *call)
     exit(1);
 }
 
-/* How many joined records list several observers. */
-static unsigned long lists_joined;
+/* How many joined records there were, by the lower byte of their kind. */
+static unsigned long joined[256];
 
 /* A join into a buffer of exactly so many bytes. A refused call changes none of them, another none behind the record. */
 static uint32_t join_into(struct bytes a, struct bytes b, size_t size)
@@ -78,16 +78,21 @@ static uint32_t join_into(struct bytes a, struct bytes b, size_t size)
     uint8_t *out = lend(size);
     uint32_t answer = hookup_join(a.at, a.len, b.at, b.len, out, size);
     size_t written = answer == HOOKUP_JOINED ? HOOKUP_HEADER + (out[0] | (size_t)out[1] << 8) : 0;
-    lists_joined += written != 0 && out[4] == HOOKUP_SEVERAL_OBSERVERS;
+    if (written != 0)
+        joined[out[4]]++;
     take_back(out, size, written, "a join");
     return answer;
 }
 
-/* How many observers a record lists: none in the first kind, and none where the bytes do not say so. */
+static bool has_kind(struct bytes record, int kind)
+{
+    return record.len > HOOKUP_HEADER && (record.at[4] | record.at[5] << 8) == kind;
+}
+
+/* How many observers a record lists: none except in the second kind, and none where the bytes do not say so. */
 static size_t listed(struct bytes record)
 {
-    bool several = record.len > HOOKUP_HEADER && (record.at[4] | record.at[5] << 8) == HOOKUP_SEVERAL_OBSERVERS;
-    return several ? record.at[HOOKUP_HEADER] : 0;
+    return has_kind(record, HOOKUP_SEVERAL_OBSERVERS) ? record.at[HOOKUP_HEADER] : 0;
 }
 
 /* The bytes of the closures of a record, by its number of observers and of states; 0 where the bytes are too few to say so. */
@@ -122,14 +127,14 @@ static uint32_t explain_into(struct bytes record, uint32_t check, size_t size)
     return answer;
 }
 
-static const size_t sizes[] = {0, 1, 11, 52, 63, 64, 136, 400, 8703, 8704, 16586, 16781, 16782, 34815, 34816, 40000};
+static const size_t sizes[] = {0, 1, 11, 52, 63, 64, 136, 400, 8703, 8704, 16586, 16650, 16781, 16782, 34815, 34816, 40000};
 
 struct tally {
     unsigned long calls, done;
 };
 
 static struct tally checks, joins, closures, explanations;
-static unsigned long mislabelled, mislisted;
+static unsigned long mislabelled, mislisted, misrefined;
 
 static void count(struct tally *tally, bool done)
 {
@@ -150,17 +155,21 @@ static void spoil(struct bytes record, size_t place, uint8_t byte, uint32_t refu
     ++*spoilt;
 }
 
-/* The levels of a record that is not refused: the first observer's and the last event's mislabelled, the last two listed equal. The first
- * listed level stands behind the four numbers of the body, and the last event's is the byte before the rows. */
-static void spoil_levels(struct bytes record)
+/* A record that is not refused, spoilt in several ways: the first observer's level and the last event's mislabelled, the last two listed
+ * levels equal, the first fine class not 0. The list stands behind the four numbers of the body, the class columns behind it, one for each
+ * observer and in a limited part a fine one, and the last event's level is the byte before the rows. */
+static void spoil_each(struct bytes record)
 {
     size_t count = listed(record), n = record.at[7], m = record.at[9];
-    size_t list = HOOKUP_HEADER + 4;
+    bool limited = has_kind(record, HOOKUP_LIMITED);
+    size_t list = HOOKUP_HEADER + 4, columns = limited ? 2 : count == 0 ? 1 : count;
     spoil(record, count == 0 ? HOOKUP_HEADER : list, 0x01, HOOKUP_MISLABELLED, &mislabelled);
     if (m > 0)
-        spoil(record, list + count + (count == 0 ? 1 : count) * n + 4 * m - 1, 0x01, HOOKUP_MISLABELLED, &mislabelled);
+        spoil(record, list + count + columns * n + 4 * m - 1, 0x01, HOOKUP_MISLABELLED, &mislabelled);
     if (count > 0)
         spoil(record, list + count - 1, record.at[list + count - 2], HOOKUP_MISLISTED, &mislisted);
+    if (limited)
+        spoil(record, list + n, 1, HOOKUP_MISREFINED, &misrefined);
 }
 
 static void try_record(struct bytes before, struct bytes now)
@@ -177,7 +186,7 @@ static void try_record(struct bytes before, struct bytes now)
     count(&closures, closures_into(now, fits) == HOOKUP_CLOSED);
     count(&closures, closures_into(now, fits == 0 ? 0 : fits - 1) == HOOKUP_CLOSED);
     if (judged(check))
-        spoil_levels(now);
+        spoil_each(now);
 }
 
 int main(int named, char **names)
@@ -190,11 +199,12 @@ int main(int named, char **names)
         before = now;
     }
     free(before.at);
-    printf("entries: %lu checks, %lu pass; %lu joins, %lu joined, %lu with several observers; %lu closures, %lu written; %lu explanations, %lu written; "
-           "%lu mislabelled, %lu mislisted\n",
-           checks.calls, checks.done, joins.calls, joins.done, lists_joined, closures.calls, closures.done, explanations.calls, explanations.done,
-           mislabelled, mislisted);
-    bool both_joined = lists_joined != 0 && joins.done > lists_joined;
-    bool all_done = checks.done != 0 && both_joined && closures.done != 0 && explanations.done != 0;
-    return all_done && mislabelled != 0 && mislisted != 0 ? 0 : 1;
+    unsigned long one = joined[HOOKUP_ONE_OBSERVER], several = joined[HOOKUP_SEVERAL_OBSERVERS], limited = joined[HOOKUP_LIMITED];
+    printf("entries: %lu checks, %lu pass; %lu joins, %lu joined, %lu with several observers, %lu limited; %lu closures, %lu written; "
+           "%lu explanations, %lu written; %lu mislabelled, %lu mislisted, %lu misrefined\n",
+           checks.calls, checks.done, joins.calls, joins.done, several, limited, closures.calls, closures.done, explanations.calls,
+           explanations.done, mislabelled, mislisted, misrefined);
+    bool each_joined = one != 0 && several != 0 && limited != 0;
+    bool all_done = checks.done != 0 && each_joined && closures.done != 0 && explanations.done != 0;
+    return all_done && mislabelled != 0 && mislisted != 0 && misrefined != 0 ? 0 : 1;
 }

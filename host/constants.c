@@ -1,12 +1,12 @@
-/* Compares the sizes of hookup.h, its kinds, its struct, the answer that hookup-host never gets, and which levels and lists of observers are
- * refused, with the library. A size is right where the library takes it and nothing beyond it. C11, and C++ too; status 1 and a line for
- * each that is wrong. */
+/* Compares the sizes of hookup.h, its kinds, its struct, the answer that hookup-host never gets, which levels, lists of observers and fine
+ * columns are refused, and limits, with the library. A size is right where the library takes it and nothing beyond it. C11, and C++ too;
+ * status 1 and a line for each that is wrong. */
 #include <stdio.h>
 #include <string.h>
 
 #include "hookup.h"
 
-enum { ONE = HOOKUP_ONE_OBSERVER, SEVERAL = HOOKUP_SEVERAL_OBSERVERS };
+enum { ONE = HOOKUP_ONE_OBSERVER, SEVERAL = HOOKUP_SEVERAL_OBSERVERS, LIMITED = HOOKUP_LIMITED };
 
 /* The levels of listed observers, which rise; one more than a record may list. */
 static const uint8_t levels_listed[HOOKUP_MAX_OBSERVERS + 1] = {0x00, 0x40, 0x80, 0xC0, 0xC1};
@@ -22,25 +22,31 @@ static void expect(size_t wanted, size_t got, const char *what)
     wrong = 1;
 }
 
-/* The number of observers that a record lists, which is none in the first kind. */
+/* The number of observers that a record lists, which is none except in the second kind. */
 static size_t listed(const uint8_t *record)
 {
     return record[4] == SEVERAL ? record[HOOKUP_HEADER] : 0;
 }
 
-/* The class column of an observer of a record that has its frame; behind the last one come the entries. */
-static uint8_t *column(uint8_t *record, size_t o)
+/* The number of its class columns: one for each observer, and of a limited part a fine one too. */
+static size_t columns(const uint8_t *record)
 {
-    return record + HOOKUP_HEADER + 4 + listed(record) + o * record[7];
+    return record[4] == SEVERAL ? listed(record) : record[4] == LIMITED ? 2 : 1;
+}
+
+/* A class column of a record that has its frame; behind the last one come the entries. */
+static uint8_t *column(uint8_t *record, size_t k)
+{
+    return record + HOOKUP_HEADER + 4 + listed(record) + k * record[7];
 }
 
 /* The entry of the event at place i. */
 static uint8_t *entry(uint8_t *record, size_t i)
 {
-    return column(record, record[4] == SEVERAL ? listed(record) : 1) + 4 * i;
+    return column(record, columns(record)) + 4 * i;
 }
 
-/* Lays the frame of a record of this kind, so many listed observers, n states in one class for each observer, and m low inputs without a
+/* Lays the frame of a record of this kind, so many listed observers, n states in one class in each column, and m low inputs without a
  * step, where there were only zeros, and gives its length. */
 static size_t frame(uint8_t *record, uint8_t kind, size_t count, size_t n, size_t m)
 {
@@ -96,7 +102,7 @@ static void expect_written(writer *call, const uint8_t *record, size_t len, size
     expect(changed, end, "bytes that it changed");
 }
 
-/* The longest records of both kinds, and what is one too many. */
+/* The longest records of each kind, and what is one too many. */
 static void sizes(void)
 {
     static uint8_t largest[65536], smallest[64];
@@ -107,10 +113,13 @@ static void sizes(void)
     expect(HOOKUP_WRONG_LENGTH, hookup_check(largest, HOOKUP_HEADER), "its header alone");
     expect(HOOKUP_TOO_SHORT, hookup_check(largest, HOOKUP_HEADER - 1), "its header without the last byte");
     expect(HOOKUP_PASS, check_made(ONE, 0, HOOKUP_MAX_STATES, HOOKUP_MAX_EVENTS), "the largest record with one observer");
+    expect(HOOKUP_PASS, check_made(LIMITED, 0, HOOKUP_MAX_STATES, HOOKUP_MAX_EVENTS), "the largest record of a limited part");
     expect(HOOKUP_OUT_OF_RANGE, check_made(ONE, 0, HOOKUP_MAX_STATES + 1, 0), "one state too many");
     expect(HOOKUP_OUT_OF_RANGE, check_made(ONE, 0, 1, HOOKUP_MAX_EVENTS + 1), "one event too many");
     expect(HOOKUP_OUT_OF_RANGE, check_made(SEVERAL, 2, HOOKUP_MAX_STATES + 1, 0), "one state too many for two observers");
     expect(HOOKUP_OUT_OF_RANGE, check_made(SEVERAL, 2, 1, HOOKUP_MAX_EVENTS + 1), "one event too many for two observers");
+    expect(HOOKUP_OUT_OF_RANGE, check_made(LIMITED, 0, HOOKUP_MAX_STATES + 1, 0), "one state too many for a limited part");
+    expect(HOOKUP_OUT_OF_RANGE, check_made(LIMITED, 0, 1, HOOKUP_MAX_EVENTS + 1), "one event too many for a limited part");
 
     size_t little = make(smallest, SEVERAL, HOOKUP_MAX_OBSERVERS, 1, 0);
     expect(HOOKUP_JOINED, hookup_join(largest, len, smallest, little, out, HOOKUP_MAX_RECORD), "the largest joined record");
@@ -118,7 +127,7 @@ static void sizes(void)
     expect(HOOKUP_NO_ROOM, hookup_join(largest, len, smallest, little, out, HOOKUP_MAX_RECORD - 1), "room for all but its last byte");
 }
 
-/* Every number but two is refused as a kind. */
+/* Every number but three is refused as a kind. */
 static void kinds(void)
 {
     static uint8_t record[64];
@@ -128,9 +137,10 @@ static void kinds(void)
         record[5] = (uint8_t)(kind >> 8);
         refused += hookup_check(record, len) == HOOKUP_WRONG_KIND;
     }
-    expect(0xFFFE, refused, "kinds refused");
+    expect(0xFFFD, refused, "kinds refused");
     expect(HOOKUP_PASS, check_made(ONE, 0, 1, 0), "one observer");
     expect(HOOKUP_PASS, check_made(SEVERAL, 2, 1, 0), "two observers");
+    expect(HOOKUP_PASS, check_made(LIMITED, 0, 1, 0), "a limited part");
 }
 
 static void closures(void)
@@ -154,6 +164,8 @@ static void closures(void)
     expect_written(hookup_closure, smallest, len, HOOKUP_CLOSURE_PIECE, HOOKUP_CLOSED, HOOKUP_CLOSURE_PIECE, "the closure of one state");
     expect_written(hookup_closure, smallest, len, HOOKUP_CLOSURE_PIECE - 1, HOOKUP_NO_ROOM, 0, "room for all but its last byte");
     expect(HOOKUP_TOO_SHORT, hookup_closure(smallest, HOOKUP_HEADER - 1, NULL, 0), "closures of no record, without room");
+    len = make(smallest, LIMITED, 0, 1, 0);
+    expect_written(hookup_closure, smallest, len, HOOKUP_CLOSURE_PIECE, HOOKUP_CLOSED, HOOKUP_CLOSURE_PIECE, "the same of a limited part");
 }
 
 /* The numbers that hookup_explain wrote to out, each by its name in the struct. */
@@ -275,11 +287,12 @@ static size_t judged_right(uint8_t *record, size_t len, uint8_t *place)
     return judged_between(-1, 256, record, len, place);
 }
 
-/* One state and most events. A stray bit, a mislabelled level and an unknown kind come in turn, and each hides the one before. */
-static void levels(void)
+/* One state and most events, in a record of this kind. A stray bit, a mislabelled level and an unknown kind come in turn, and each hides the
+ * one before. */
+static void levels(uint8_t kind)
 {
-    static uint8_t record[512];
-    size_t len = make(record, ONE, 0, 1, HOOKUP_MAX_EVENTS), last = HOOKUP_MAX_EVENTS - 1;
+    uint8_t record[512] = {0};
+    size_t len = make(record, kind, 0, 1, HOOKUP_MAX_EVENTS), last = HOOKUP_MAX_EVENTS - 1;
     expect(256, judged_right(record, len, record + HOOKUP_HEADER), "levels of the observer judged right");
     expect(256, judged_right(record, len, entry(record, 0) + 3), "levels of the first event judged right");
     expect(256, judged_right(record, len, entry(record, last) + 3), "levels of the last event judged right");
@@ -317,6 +330,108 @@ static void lists(void)
     expect(HOOKUP_WRONG_SIZE, hookup_check(record, len), "the length for one observer more with both");
 }
 
+/* A part without an event for the observer 0x00: its kind, its states, its columns one behind the other, and its limit. */
+struct grouped {
+    uint8_t kind;
+    size_t n;
+    uint8_t classes[32];
+    size_t limit;
+};
+
+/* Its record, where there were only zeros. */
+static size_t make_grouped(uint8_t *record, struct grouped part)
+{
+    size_t len = make(record, part.kind, 0, part.n, 0);
+    memcpy(column(record, 0), part.classes, columns(record) * part.n);
+    return len;
+}
+
+/* All coarse and fine columns of three states with bytes up to 3. Of the 64 columns 5 are numbered by first appearance. 12 pairs of these
+ * are a grouping and a refinement: 5 of one class, 2 each of three groupings with two classes, 1 of three classes. Their limits add up to
+ * 10, 3 each and 1. */
+static void refinements(void)
+{
+    size_t answers[HOOKUP_BREAK] = {0}, limits = 0;
+    for (size_t pair = 0; pair < 4096; pair++) {
+        uint8_t record[64] = {0};
+        struct grouped part = {LIMITED, 3, {0}, 0};
+        struct hookup_explanation told = {0, 0, 0, 0, 0, 0, 0, 0};
+        for (size_t k = 0; k < 6; k++)
+            part.classes[k] = (uint8_t)(pair >> 2 * k & 3);
+        size_t len = make_grouped(record, part);
+        answers[hookup_explain(record, len, (uint8_t *)&told, sizeof told)]++;
+        limits += told.limit;
+    }
+    expect((64 - 5) * 64, answers[HOOKUP_MISNUMBERED], "pairs with a wrong coarse column");
+    expect(5 * 64 - 12, answers[HOOKUP_MISREFINED], "pairs with a wrong fine column");
+    expect(12, answers[HOOKUP_PASS], "pairs of a grouping and a refinement");
+    expect(10 + 3 * 3 + 1, limits, "the sum of their limits");
+}
+
+/* Two states in one coarse class, and a low output that leads from the first to the second. With two fine classes it passes, with one it
+ * breaks rule 5. Then an unknown kind of event, a wrong fine column in both ways and a wrong coarse one come in turn, and each hides the one
+ * before. */
+static void limited(void)
+{
+    static uint8_t record[64];
+    static const struct hookup_explanation pass = {0, 0, 0, 0, 0, 2, 0, 2}, first_break = {5, 0, 0, 1, 1, 2, 0, 0};
+    size_t len = frame(record, LIMITED, 0, 2, 1), size = HOOKUP_EXPLANATION;
+    uint8_t *coarse = column(record, 0), *fine = column(record, 1);
+    entry(record, 0)[2] = 1;
+    step(record, 0, 0, 1);
+    fine[1] = 1;
+    expect_written(hookup_explain, record, len, sizeof out, HOOKUP_PASS, size, "the explanation of a limited part");
+    expect_numbers(pass);
+    fine[1] = 0;
+    expect_written(hookup_explain, record, len, sizeof out, HOOKUP_BREAK + 5, size, "the same with one fine class");
+    expect_numbers(first_break);
+    entry(record, 0)[2] = 3;
+    expect(HOOKUP_MISORDERED, hookup_check(record, len), "an unknown kind of event");
+    fine[1] = 2;
+    expect(HOOKUP_MISREFINED, hookup_check(record, len), "a fine class that skips a number with it");
+    fine[1] = 0;
+    coarse[1] = 1;
+    expect(HOOKUP_MISREFINED, hookup_check(record, len), "a fine class across two coarse ones with it");
+    expect_written(hookup_closure, record, len, sizeof out, HOOKUP_MISREFINED, 0, "the closures of that");
+    expect_written(hookup_explain, record, len, sizeof out, HOOKUP_MISREFINED, 0, "the explanation of that");
+    coarse[1] = 2;
+    expect(HOOKUP_MISNUMBERED, hookup_check(record, len), "a coarse class that skips a number with both");
+}
+
+/* Joins two parts, which has to give the record of the third, and compares its limit. */
+static void expect_joined(struct grouped a, struct grouped b, struct grouped wanted)
+{
+    uint8_t first[64] = {0}, second[64] = {0}, record[64] = {0};
+    struct hookup_explanation told;
+    size_t alen = make_grouped(first, a), blen = make_grouped(second, b), len = make_grouped(record, wanted);
+    expect(HOOKUP_JOINED, hookup_join(first, alen, second, blen, out, sizeof out), "a join");
+    expect(0, (size_t)memcmp(out, record, len), "its difference from the joined record");
+    expect(HOOKUP_PASS, hookup_explain(out, len, (uint8_t *)&told, sizeof told), "the joined record");
+    expect(wanted.limit, told.limit, "its limit");
+}
+
+/* A limited part of four states, with two coarse classes and three fine ones, and a part of two states with one observer: kinds, columns and
+ * limits of their joins. A list of observers and another observer do not join with the limited part. */
+static void joins(void)
+{
+    static const struct grouped one = {ONE, 2, {0, 1}, 1}, fine = {LIMITED, 4, {0, 0, 0, 1, 0, 0, 1, 2}, 2};
+    static const struct grouped both_one = {ONE, 4, {0, 1, 2, 3}, 1};
+    static const struct grouped one_fine = {LIMITED, 8, {0, 0, 0, 1, 2, 2, 2, 3, 0, 0, 1, 2, 3, 3, 4, 5}, 2};
+    static const struct grouped fine_one = {LIMITED, 8, {0, 1, 0, 1, 0, 1, 2, 3, 0, 1, 0, 1, 2, 3, 4, 5}, 2};
+    static const struct grouped both_fine = {LIMITED, 16, {0, 0, 0, 1, 0, 0, 0, 1, 0, 0, 0, 1, 2, 2, 2, 3,
+                                                           0, 0, 1, 2, 0, 0, 1, 2, 3, 3, 4, 5, 6, 6, 7, 8}, 4};
+    static uint8_t record[64], list[64], above[64];
+    size_t len = make_grouped(record, fine), list_len = make(list, SEVERAL, 2, 1, 0), above_len = make(above, ONE, 0, 1, 0);
+    expect_joined(one, one, both_one);
+    expect_joined(one, fine, one_fine);
+    expect_joined(fine, one, fine_one);
+    expect_joined(fine, fine, both_fine);
+    expect(HOOKUP_OBSERVERS_DIFFER, hookup_join(record, len, list, list_len, out, sizeof out), "a limited part with a list");
+    expect(HOOKUP_OBSERVERS_DIFFER, hookup_join(list, list_len, record, len, out, sizeof out), "a list with a limited part");
+    above[HOOKUP_HEADER] = 0x40;
+    expect(HOOKUP_OBSERVERS_DIFFER, hookup_join(record, len, above, above_len, out, sizeof out), "a limited part with another observer");
+}
+
 int main(void)
 {
     sizes();
@@ -324,7 +439,11 @@ int main(void)
     closures();
     explanations();
     observers();
-    levels();
+    levels(ONE);
+    levels(LIMITED);
     lists();
+    refinements();
+    limited();
+    joins();
     return wrong;
 }

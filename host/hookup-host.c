@@ -17,28 +17,34 @@ struct meaning {
     uint32_t number;
     bool own;
     const char *words;
+    const char *limited; /* the words about a limited part, where they are others */
 };
 
 static const struct meaning meanings[] = {
-    {HOOKUP_TOO_SHORT, true, "fewer than six bytes"},
-    {HOOKUP_WRONG_LENGTH, true, "the length is not the number of bytes after the first six"},
-    {HOOKUP_WRONG_KIND, true, "the kind is neither 1 nor 2"},
-    {HOOKUP_OUT_OF_RANGE, true, "the body is under four bytes, or the state count, start state or event count is out of range"},
-    {HOOKUP_WRONG_SIZE, true, "the length is not the one for so many states and events"},
-    {HOOKUP_MISLISTED, true, "the observer count is outside 2 to 4, or the observers do not rise"},
-    {HOOKUP_MISNUMBERED, true, "the classes are not numbered by first appearance"},
-    {HOOKUP_MISORDERED, true, "the identifiers do not rise, or an event kind is above 2"},
-    {HOOKUP_MISLABELLED, true, "a level of rank 0 has a compartment"},
-    {HOOKUP_STRAY_BIT, true, "a row has a bit for a state that is not there"},
-    {HOOKUP_OBSERVERS_DIFFER, false, "the observers differ"},
-    {HOOKUP_CLASH, false, "a shared event clashes in kind or level"},
-    {HOOKUP_TOO_LARGE, false, "more than 64 states or more than 32 events together"},
-    {HOOKUP_NO_ROOM, false, "the output buffer is too short"},
-    {HOOKUP_BREAK + 1, true, "rule 1 is broken: an input has no step from some state"},
-    {HOOKUP_BREAK + 2, true, "rule 2 is broken: a high input leaves its state's class"},
-    {HOOKUP_BREAK + 3, true, "rule 3 is broken: a low input leads from one state to a class where it does not lead from another of the same class"},
-    {HOOKUP_BREAK + 4, true, "rule 4 is broken: a silent event (a high output or an internal event) leads to a class that another state of the same class cannot reach by silent steps"},
-    {HOOKUP_BREAK + 5, true, "rule 5 is broken: a low output leads to a class that another state of the same class cannot reach by it and silent steps"},
+    {HOOKUP_TOO_SHORT, true, "fewer than six bytes", NULL},
+    {HOOKUP_WRONG_LENGTH, true, "the length is not the number of bytes after the first six", NULL},
+    {HOOKUP_WRONG_KIND, true, "the kind is none of 1, 2 and 3", NULL},
+    {HOOKUP_OUT_OF_RANGE, true, "the body is under four bytes, or the state count, start state or event count is out of range", NULL},
+    {HOOKUP_WRONG_SIZE, true, "the length is not the one for so many states and events", NULL},
+    {HOOKUP_MISLISTED, true, "the observer count is outside 2 to 4, or the observers do not rise", NULL},
+    {HOOKUP_MISNUMBERED, true, "the classes are not numbered by first appearance", "the coarse classes are not numbered by first appearance"},
+    {HOOKUP_MISREFINED, true, "the fine classes are not numbered by first appearance, or one lies across two coarse ones", NULL},
+    {HOOKUP_MISORDERED, true, "the identifiers do not rise, or an event kind is above 2", NULL},
+    {HOOKUP_MISLABELLED, true, "a level of rank 0 has a compartment", NULL},
+    {HOOKUP_STRAY_BIT, true, "a row has a bit for a state that is not there", NULL},
+    {HOOKUP_OBSERVERS_DIFFER, false, "the observers differ", NULL},
+    {HOOKUP_CLASH, false, "a shared event clashes in kind or level", NULL},
+    {HOOKUP_TOO_LARGE, false, "more than 64 states or more than 32 events together", NULL},
+    {HOOKUP_NO_ROOM, false, "the output buffer is too short", NULL},
+    {HOOKUP_BREAK + 1, true, "rule 1 is broken: an input has no step from some state", NULL},
+    {HOOKUP_BREAK + 2, true, "rule 2 is broken: a high input leaves its state's class",
+     "rule 2 is broken: a high input leaves its state's coarse class"},
+    {HOOKUP_BREAK + 3, true, "rule 3 is broken: a low input leads from one state to a class where it does not lead from another of the same class",
+     "rule 3 is broken: a low input leads from one state to a coarse class where it does not lead from another of the same coarse class"},
+    {HOOKUP_BREAK + 4, true, "rule 4 is broken: a silent event (a high output or an internal event) leads to a class that another state of the same class cannot reach by silent steps",
+     "rule 4 is broken: a silent event (a high output or an internal event) leads to a coarse class that another state of the same fine class cannot reach by silent steps"},
+    {HOOKUP_BREAK + 5, true, "rule 5 is broken: a low output leads to a class that another state of the same class cannot reach by it and silent steps",
+     "rule 5 is broken: a low output leads to a coarse class that another state of the same fine class cannot reach by it and silent steps"},
 };
 
 static const struct meaning *find_meaning(uint32_t answer)
@@ -79,6 +85,13 @@ static int print_done(uint32_t answer, const char *words)
     return after_printing(printf("%" PRIu32 ": %s\n", answer, words) >= 0, DONE);
 }
 
+/* The same of a limited part, for which it says less. */
+static int print_limited(uint32_t answer, const char *words, uint64_t limit)
+{
+    return after_printing(printf("%" PRIu32 ": %s as a limited part with limit %" PRIu64 ": nothing is promised about its high inputs\n", answer,
+                                 words, limit) >= 0, DONE);
+}
+
 /* Whether a level, with the rank in its two highest bits and a bit for each compartment, has rank 0 and a compartment. */
 static bool mislabelled(uint8_t level)
 {
@@ -103,23 +116,30 @@ struct observers {
     const uint8_t *levels;
 };
 
-/* The last two bytes of the header are the kind, lowest first. The body begins with four numbers of a byte each: the level of the only
- * observer or how many are listed, the number of states, the start state, the number of events. The listed levels follow. */
+/* The last two bytes of the header are the kind, lowest first. */
+static bool has_kind(const uint8_t *record, int kind)
+{
+    return (record[4] | record[5] << 8) == kind;
+}
+
+/* The body begins with four numbers of a byte each: the level of the only observer or how many are listed, the number of states, the start
+ * state, the number of events. The listed levels follow. */
 static struct observers observers_of(const uint8_t *record)
 {
     const uint8_t *body = record + HOOKUP_HEADER;
-    if ((record[4] | record[5] << 8) == HOOKUP_SEVERAL_OBSERVERS)
+    if (has_kind(record, HOOKUP_SEVERAL_OBSERVERS))
         return (struct observers){true, body[0], body + 4};
     return (struct observers){false, 1, body};
 }
 
-/* The entries of a record's events, four bytes each: two of the identifier, lowest first, then kind and level. Before them each observer
- * has a class byte for each state. */
+/* The entries of a record's events, four bytes each: two of the identifier, lowest first, then kind and level. Before them stand columns
+ * with a class byte for each state: one for each observer, and in a limited part the fine one behind it. */
 static const uint8_t *entries_of(const uint8_t *record)
 {
     const uint8_t *body = record + HOOKUP_HEADER;
     struct observers all = observers_of(record);
-    return body + 4 + (all.listed ? all.count : 0) + all.count * body[1];
+    int columns = has_kind(record, HOOKUP_LIMITED) ? 2 : all.count;
+    return body + 4 + (all.listed ? all.count : 0) + columns * body[1];
 }
 
 /* Prints which is the first mislabelled level of a record that is refused for it: that of an observer, or that of an event. False and errno
@@ -157,24 +177,52 @@ static bool print_mislisted(struct observers all)
     return true;
 }
 
-/* Prints what more the record tells of its refusal: its observers, where their number or their list is why, or its mislabelled level. False
- * and errno where that fails. */
+/* Prints why the fine classes of a limited part are refused: the first that skips a number, or else two states whose fine classes are the
+ * same and whose coarse ones are not. False and errno where that fails. */
+static bool print_misrefined(const uint8_t *record)
+{
+    int n = record[HOOKUP_HEADER + 1], next = 0;
+    const uint8_t *coarse = record + HOOKUP_HEADER + 4, *fine = coarse + n;
+    for (int s = 0; s < n; s++) {
+        if (fine[s] > next)
+            return printf(": state %d has fine class %d, and none before it has %d", s, fine[s], next) >= 0;
+        next += fine[s] == next;
+    }
+    for (int s = 0; s < n; s++)
+        for (int u = 0; u < s; u++)
+            if (fine[s] == fine[u] && coarse[s] != coarse[u])
+                return printf(": states %d and %d have fine class %d, and coarse classes %d and %d", u, s, fine[s], coarse[u], coarse[s]) >= 0;
+    return true;
+}
+
+/* Prints what more the record tells of its refusal: its observers, where their number or their list is why, its fine classes, or its
+ * mislabelled level. False and errno where that fails. */
 static bool print_detail(uint32_t refusal, const uint8_t *record)
 {
     if (refusal == HOOKUP_WRONG_SIZE && observers_of(record).listed)
         return print_count(observers_of(record));
     if (refusal == HOOKUP_MISLISTED)
         return print_mislisted(observers_of(record));
+    if (refusal == HOOKUP_MISREFINED)
+        return print_misrefined(record);
     if (refusal == HOOKUP_MISLABELLED)
         return print_mislabelled(record);
     return true;
+}
+
+/* The words of an answer about this record, which has a header where those about a limited part are others. */
+static const char *words_of(const struct meaning *m, const uint8_t *record)
+{
+    if (m == NULL)
+        return "not an answer that hookup.h names";
+    return m->limited != NULL && has_kind(record, HOOKUP_LIMITED) ? m->limited : m->words;
 }
 
 /* Prints an answer, and what more this record tells of it. */
 static int print_refusal(uint32_t answer, const char *which, const uint8_t *record)
 {
     const struct meaning *m = find_meaning(answer);
-    bool printed = printf("%" PRIu32 ": %s%s", answer, m == NULL ? "not an answer that hookup.h names" : m->words, which) >= 0;
+    bool printed = printf("%" PRIu32 ": %s%s", answer, words_of(m, record), which) >= 0;
     if (printed && m != NULL)
         printed = print_detail(m->number, record);
     return after_printing(printed && putchar('\n') != EOF, REFUSED);
@@ -280,10 +328,22 @@ static size_t record_length(const uint8_t *record)
     return HOOKUP_HEADER + ((size_t)record[0] | (size_t)record[1] << 8 | (size_t)record[2] << 16 | (size_t)record[3] << 24);
 }
 
-static int print_verdict(uint32_t answer, const uint8_t *record)
+/* The limit of a part that passes: 1, or of a limited part what hookup_explain tells. */
+static uint64_t limit_of(struct bytes record)
+{
+    struct hookup_explanation explanation = {.limit = 1};
+    if (has_kind(record.at, HOOKUP_LIMITED))
+        hookup_explain(record.at, record.len, (uint8_t *)&explanation, sizeof explanation);
+    return explanation.limit;
+}
+
+/* Prints the verdict on a record; the limit is that of a part that passes. */
+static int print_verdict(uint32_t answer, const uint8_t *record, uint64_t limit)
 {
     if (answer != HOOKUP_PASS)
         return print_refusal(answer, "", record);
+    if (has_kind(record, HOOKUP_LIMITED))
+        return print_limited(answer, "passes only", limit);
     struct observers all = observers_of(record);
     if (!all.listed)
         return print_done(answer, "passes");
@@ -292,20 +352,24 @@ static int print_verdict(uint32_t answer, const uint8_t *record)
 
 static int check_record(struct bytes record)
 {
-    return print_verdict(hookup_check(record.at, record.len), record.at);
+    uint32_t answer = hookup_check(record.at, record.len);
+    return print_verdict(answer, record.at, answer == HOOKUP_PASS ? limit_of(record) : 0);
 }
 
-/* Prints which event breaks the rule, and at which states. False and errno where that fails. */
-static bool print_break(const struct hookup_explanation *e)
+/* Prints which event breaks the rule, and at which states; of a limited part also which of its classes are meant. False and errno where that
+ * fails. */
+static bool print_break(const struct hookup_explanation *e, bool limited)
 {
+    const char *coarse = limited ? "coarse " : "";
+    const char *mates = limited && e->rule > 3 ? "fine " : coarse;
     if (e->rule == 1)
         return printf("event %" PRIu64 " has no step from state %" PRIu64 "\n", e->event, e->s) >= 0;
     if (printf("event %" PRIu64 " leads from state %" PRIu64 " to state %" PRIu64, e->event, e->s, e->t) < 0)
         return false;
     if (e->rule == 2)
-        return puts(", of another class") != EOF;
-    return printf("; from state %" PRIu64 ", of the class of %" PRIu64 ", %s into the class of %" PRIu64 "%s\n", e->u, e->s,
-                  e->rule == 4 ? "silent steps do not lead" : "it does not lead", e->t,
+        return printf(", of another %sclass\n", coarse) >= 0;
+    return printf("; from state %" PRIu64 ", of the %sclass of %" PRIu64 ", %s into the %sclass of %" PRIu64 "%s\n", e->u, mates, e->s,
+                  e->rule == 4 ? "silent steps do not lead" : "it does not lead", coarse, e->t,
                   e->rule == 5 ? ", even with silent steps before and after it" : "") >= 0;
 }
 
@@ -330,10 +394,11 @@ static bool print_taken(const struct hookup_explanation *e, struct observers all
     return printf("states taken up for observer 0x%02" PRIx64 ": %" PRIu64 "\n", observer, e->taken) >= 0;
 }
 
-/* Prints what hookup_explain wrote for a record with these observers. False and errno where that fails. */
-static bool print_explanation(const struct hookup_explanation *e, struct observers all)
+/* Prints what hookup_explain wrote for a record. False and errno where that fails. */
+static bool print_explanation(const struct hookup_explanation *e, const uint8_t *record)
 {
-    if (e->rule != 0 && !(print_break(e) && print_concerned(e, all)))
+    struct observers all = observers_of(record);
+    if (e->rule != 0 && !(print_break(e, has_kind(record, HOOKUP_LIMITED)) && print_concerned(e, all)))
         return false;
     return print_taken(e, all);
 }
@@ -341,13 +406,13 @@ static bool print_explanation(const struct hookup_explanation *e, struct observe
 /* Prints what check prints and, where the record is not refused, the explanation. */
 static int explain_record(struct bytes record)
 {
-    struct hookup_explanation explanation;
+    struct hookup_explanation explanation = {0};
     uint32_t answer = hookup_explain(record.at, record.len, (uint8_t *)&explanation, sizeof explanation);
-    int status = print_verdict(answer, record.at);
+    int status = print_verdict(answer, record.at, explanation.limit);
     bool written = answer == HOOKUP_PASS || answer > HOOKUP_BREAK;
     if (status == TROUBLE || !written)
         return status;
-    return after_printing(print_explanation(&explanation, observers_of(record.at)), status);
+    return after_printing(print_explanation(&explanation, record.at), status);
 }
 
 /* The number of states in a set of 64 bits. */
@@ -419,9 +484,10 @@ static int join_records(struct bytes a, struct bytes b, const char *out)
     uint32_t answer = hookup_join(a.at, a.len, b.at, b.len, record, sizeof record);
     if (answer != HOOKUP_JOINED)
         return print_refusal(answer, side(answer), answer > HOOKUP_SECOND ? b.at : a.at);
-    if (!(may_replace(out) && replace_file(out, record, record_length(record))))
+    struct bytes joined = {record, record_length(record)};
+    if (!(may_replace(out) && replace_file(out, joined.at, joined.len)))
         return TROUBLE;
-    return print_done(answer, "joined");
+    return has_kind(record, HOOKUP_LIMITED) ? print_limited(answer, "joined", limit_of(joined)) : print_done(answer, "joined");
 }
 
 static int join_files(const char *first, const char *second, const char *out)

@@ -20,9 +20,11 @@
 #define HOOKUP_MAX_CLOSURE 34816 /* bytes that it writes for most observers and most states */
 #define HOOKUP_EXPLANATION 64    /* bytes that hookup_explain writes */
 
-/* Kinds of record. The number of states is the record's byte HOOKUP_HEADER + 1 in both. */
+/* Kinds of record. The number of states is the record's byte HOOKUP_HEADER + 1 in each. A part of the third kind is limited: its classes,
+ * the coarse ones, are split into fine ones. A part of the first two kinds that passes hides its high inputs; a limited part need not. */
 #define HOOKUP_ONE_OBSERVER 1      /* byte HOOKUP_HEADER is the observer's level */
 #define HOOKUP_SEVERAL_OBSERVERS 2 /* byte HOOKUP_HEADER is their number; their levels are listed from byte HOOKUP_HEADER + 4 on */
+#define HOOKUP_LIMITED 3           /* byte HOOKUP_HEADER is the observer's level; the fine column stands behind the coarse one */
 
 /* Answers: done. */
 #define HOOKUP_PASS 0   /* of hookup_check and hookup_explain: no refusal applies and all five rules hold for each observer */
@@ -32,11 +34,12 @@
 /* Answers: refusals of a record, tested in this order, which is not that of the numbers. */
 #define HOOKUP_TOO_SHORT 1    /* fewer bytes than a header has */
 #define HOOKUP_WRONG_LENGTH 2 /* the length field is not the number of bytes behind the header */
-#define HOOKUP_WRONG_KIND 3   /* the kind of the record is neither HOOKUP_ONE_OBSERVER nor HOOKUP_SEVERAL_OBSERVERS */
+#define HOOKUP_WRONG_KIND 3   /* the kind of the record is none of HOOKUP_ONE_OBSERVER, HOOKUP_SEVERAL_OBSERVERS and HOOKUP_LIMITED */
 #define HOOKUP_OUT_OF_RANGE 4 /* a body under four bytes, or number of states, start state or number of events out of range */
 #define HOOKUP_WRONG_SIZE 5   /* the length is not that of so many observers, states and events */
 #define HOOKUP_MISLISTED 20   /* the listed observers are not 2 to HOOKUP_MAX_OBSERVERS, or their levels, as bytes, do not rise strictly */
-#define HOOKUP_MISNUMBERED 6  /* the classes for an observer are not numbered by first appearance */
+#define HOOKUP_MISNUMBERED 6  /* the classes for an observer, of a limited part the coarse ones, are not numbered by first appearance */
+#define HOOKUP_MISREFINED 21  /* of a limited part: the fine classes are not numbered by first appearance, or one lies across two coarse ones */
 #define HOOKUP_MISORDERED 7   /* the identifiers do not rise, or an event's kind is above 2 */
 #define HOOKUP_MISLABELLED 16 /* the level of an observer or of an event has rank 0 and a compartment */
 #define HOOKUP_STRAY_BIT 8    /* a row has a bit for a state that is not there */
@@ -58,7 +61,8 @@ extern "C" {
 /* Checks one part record of len bytes.
  *
  * Answers HOOKUP_PASS; the first refusal of a record that applies to the bytes; or HOOKUP_BREAK plus the first rule that is broken for the
- * first observer, in the order of the record, for whom one is. Any bytes of any length are taken, and nothing is written.
+ * first observer, in the order of the record, for whom one is. Any bytes of any length are taken, and nothing is written. The limit of a
+ * limited part that passes is told by hookup_explain.
  *
  * record may be null only where len is 0; otherwise it points to len readable bytes. The call reads nothing else, keeps
  * nothing, takes no lock, and may be made by several threads at once. It needs less
@@ -68,8 +72,9 @@ uint32_t hookup_check(const uint8_t *record, size_t len);
 
 /* Joins the parts of two records, a and b, and writes the joined record to the start of out.
  *
- * Answers HOOKUP_JOINED if it did; how long the record is, its header says, and its kind and observers are those of both. Otherwise
- * nothing is written, and the answer is the first of these that applies:
+ * Answers HOOKUP_JOINED if it did; how long the record is, its header says, and its observers are those of both. Its kind is HOOKUP_LIMITED
+ * where that of a or of b is, and otherwise that of both. It passes, and its limit is the product of the limits of a and b. Where the
+ * answer is another, nothing is written, and it is the first of these that applies:
  *   what hookup_check says of a, where a does not pass
  *   HOOKUP_SECOND plus what it says of b, where b does not pass
  *   HOOKUP_OBSERVERS_DIFFER, HOOKUP_CLASH, HOOKUP_TOO_LARGE
@@ -84,8 +89,9 @@ uint32_t hookup_join(const uint8_t *a, size_t alen, const uint8_t *b, size_t ble
 /* Writes, for a debugger, where silent steps lead from each state of a part, for each observer of the record. An event is silent if it is
  * a high output or, at any level, internal.
  *
- * Answers HOOKUP_CLOSED if it did. out then begins with a block for each observer, in the order of the record; the kind says how many
- * there are. A block has a piece of HOOKUP_CLOSURE_PIECE bytes for each state s, in the order of the states:
+ * Answers HOOKUP_CLOSED if it did. out then begins with a block for each observer, in the order of the record: one block, or in
+ * HOOKUP_SEVERAL_OBSERVERS as many as are listed. A block has a piece of HOOKUP_CLOSURE_PIECE bytes for each state s, in the order of the
+ * states:
  *   8 bytes   the silent closure of s as a set, lowest byte first: bit t is set where silent steps lead from s to t, and bit s always
  *   64 bytes  the visits, a state in each: the states of the set, each once, then zeros. They go by the least number of silent steps from
  *             s, the lowest state first among equals; so s is the first
@@ -114,7 +120,8 @@ struct hookup_explanation {
     uint64_t taken;    /* how many states were taken up: the sizes of the silent closures of all states together, for the first observer
                           of the record where the part passes, for the observer of the break where rule 4 or 5 is broken; otherwise 0 */
     uint64_t observer; /* the level of the observer of the break; 0 where the part passes */
-    uint64_t limit;    /* 1 where the part passes; 0 where a rule is broken */
+    uint64_t limit;    /* where the part passes, the largest number of fine classes in one coarse class of a limited part, and 1 for the
+                          other kinds; 0 where a rule is broken */
 };
 
 /* Checks one part record as hookup_check does, and says more about it.

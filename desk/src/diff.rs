@@ -2,7 +2,7 @@
 
 use std::collections::BTreeSet;
 
-use crate::part::{states_of, Event, Observer, Part, Table};
+use crate::part::{groups, states_of, Event, Observer, Part, Table};
 
 /// Of more pairs of states than this, only the number of the others is told.
 const MAX_PAIRS: usize = 10;
@@ -67,14 +67,21 @@ fn compared<'a>(a: &'a Part, b: &'a Part) -> Vec<(&'a Observer, &'a Observer)> {
     a.observers.iter().filter_map(|in_a| Some((in_a, b.observer(in_a.level)?))).collect()
 }
 
+/// `1 class`, `2 classes`
+fn class_count(class: &str, column: &[u8]) -> String {
+    match groups(column).len() {
+        1 => format!("1 {class}"),
+        count => format!("{count} {class}es"),
+    }
+}
+
 /// The observers of `one` whose level no observer of `other` has.
 fn own_observers(one: &Part, other: &Part, side: &str, lines: &mut Vec<String>) {
     for observer in one.observers.iter().filter(|observer| other.observer(observer.level).is_none()) {
-        let classes = match observer.groups().len() {
-            1 => "1 class".to_string(),
-            count => format!("{count} classes"),
-        };
-        lines.push(format!("observer {}: only in {side}: {classes}", observer.level.text_and_byte()));
+        let mut counts = vec![class_count("class", &observer.classes)];
+        counts.extend(observer.fine.iter().map(|fine| class_count("fine class", fine)));
+        let level = observer.level.text_and_byte();
+        lines.push(format!("observer {level}: only in {side}: {}", counts.join(", ")));
     }
 }
 
@@ -97,31 +104,21 @@ fn starts(a: &Table, b: &Table, lines: &mut Vec<String>) {
     }
 }
 
-/// The classes of the first n states.
-fn groups(observer: &Observer, n: usize) -> Vec<Vec<usize>> {
-    let mut groups = observer.groups();
-    for group in &mut groups {
-        group.retain(|&s| s < n);
-    }
-    groups.retain(|group| !group.is_empty());
-    groups
-}
-
-/// The classes of `one`, an observer of the table, that `other` does not have.
-fn own_classes(table: &Table, one: &Observer, other: &Observer, n: usize) -> Option<String> {
-    let others = groups(other, n);
-    let mut own = groups(one, n);
+/// The classes of `one`, a column of the table, that `other` does not have.
+fn own_classes(table: &Table, one: &[u8], other: &[u8]) -> Option<String> {
+    let others = groups(other);
+    let mut own = groups(one);
     own.retain(|group| !others.contains(group));
     let words: Vec<String> = own.iter().map(|group| format!("{{{}}}", states(table, group))).collect();
     (!words.is_empty()).then(|| words.join(" "))
 }
 
 /// The pairs of states that `one` puts together and `other` does not.
-fn pairs(one: &Observer, other: &Observer, n: usize) -> Vec<[usize; 2]> {
+fn pairs(one: &[u8], other: &[u8]) -> Vec<[usize; 2]> {
     let mut pairs = Vec::new();
-    for s in 0..n {
-        for t in s + 1..n {
-            if one.same_class(s, t) && !other.same_class(s, t) {
+    for s in 0..one.len() {
+        for t in s + 1..one.len() {
+            if one[s] == one[t] && other[s] != other[t] {
                 pairs.push([s, t]);
             }
         }
@@ -139,17 +136,28 @@ fn pair_words(a: &Table, b: &Table, pairs: &[[usize; 2]]) -> Option<String> {
     (!words.is_empty()).then(|| words.join(", "))
 }
 
-/// The groupings of one observer in A and one in B; `title` begins each line.
-fn grouping(a: (&Table, &Observer), b: (&Table, &Observer), title: &str, lines: &mut Vec<String>) {
+/// A grouping of A and one of B, of the states that both have; `title` begins each line.
+fn grouping(a: (&Table, &[u8]), b: (&Table, &[u8]), title: &str, lines: &mut Vec<String>) {
     let n = shared_states(&a.0.part, &b.0.part);
+    let (in_a, in_b) = (&a.1[..n], &b.1[..n]);
     let differences = [
-        ("classes only in A", own_classes(a.0, a.1, b.1, n)),
-        ("classes only in B", own_classes(b.0, b.1, a.1, n)),
-        ("together in A, apart in B", pair_words(a.0, b.0, &pairs(a.1, b.1, n))),
-        ("together in B, apart in A", pair_words(a.0, b.0, &pairs(b.1, a.1, n))),
+        ("classes only in A", own_classes(a.0, in_a, in_b)),
+        ("classes only in B", own_classes(b.0, in_b, in_a)),
+        ("together in A, apart in B", pair_words(a.0, b.0, &pairs(in_a, in_b))),
+        ("together in B, apart in A", pair_words(a.0, b.0, &pairs(in_b, in_a))),
     ];
     for (which, words) in differences {
         lines.extend(words.map(|words| format!("{title}: {which}: {words}")));
+    }
+}
+
+/// The fine groupings, where a part is limited; that only one of the parts is so is a line of its own.
+fn fine_grouping(a: (&Table, &Observer), b: (&Table, &Observer), title: &str, lines: &mut Vec<String>) {
+    match (&a.1.fine, &b.1.fine) {
+        (Some(in_a), Some(in_b)) => grouping((a.0, in_a), (b.0, in_b), title, lines),
+        (Some(in_a), None) => lines.push(format!("{title}: only in A: {}", class_count("class", in_a))),
+        (None, Some(in_b)) => lines.push(format!("{title}: only in B: {}", class_count("class", in_b))),
+        (None, None) => {}
     }
 }
 
@@ -159,7 +167,8 @@ fn groupings(a: &Table, b: &Table, lines: &mut Vec<String>) {
             true => format!("grouping for the observer {}", in_a.level.text_and_byte()),
             false => "grouping".to_string(),
         };
-        grouping((a, in_a), (b, in_b), &title, lines);
+        grouping((a, &in_a.classes), (b, &in_b.classes), &title, lines);
+        fine_grouping((a, in_a), (b, in_b), &format!("fine {title}"), lines);
     }
 }
 
@@ -409,6 +418,48 @@ event 12 internal rank 3 compartments 1 5
         assert_eq!(changed_watched("input", "output"), ["event 7 \"send\": kind: A input, B output"]);
     }
 
+    /// A with fine classes.
+    fn limited(fine: &str) -> Table {
+        table(&A.replace("{full}\n", &format!("{{full}}\nfine {fine}\n")))
+    }
+
+    /// Told also where the fine classes are the classes.
+    #[test]
+    fn fine_classes_of_one_part_only() {
+        let line = |side, count| format!("fine grouping: only in {side}: {count} classes");
+        assert_eq!(differences(&limited("{0} {1} {2}"), &table(A)), [line("A", 3)]);
+        assert_eq!(differences(&table(A), &limited("{0} {1} {2}")), [line("B", 3)]);
+        assert_eq!(differences(&table(A), &limited("{0 1} {2}")), [line("B", 2)]);
+        assert_eq!(differences(&limited("{0} {1} {2}"), &limited("{2} {1} {0}")), [""; 0]);
+    }
+
+    #[test]
+    fn the_fine_grouping() {
+        let expected = [
+            "fine grouping: classes only in A: {0:idle 1:sent}",
+            "fine grouping: classes only in B: {0:idle} {1:sent}",
+            "fine grouping: together in A, apart in B: 0:idle with 1:sent",
+        ];
+        assert_eq!(differences(&limited("{0 1} {2}"), &limited("{0} {1} {2}")), expected);
+        let coarser = table(&A.replace("{idle sent} {full}\n", "{idle sent full}\nfine {0 1} {2}\n"));
+        let lines = differences(&limited("{0 1} {2}"), &coarser);
+        assert_eq!(lines[0], "grouping: classes only in A: {0:idle 1:sent} {2:full}");
+        assert_eq!(lines[1], "grouping: classes only in B: {0:idle 1:sent 2:full}");
+        assert!(lines.iter().all(|line| line.starts_with("grouping: ")), "{lines:?}");
+    }
+
+    /// Beside a part with several observers the fine classes are told with their observer.
+    #[test]
+    fn fine_classes_and_several_observers() {
+        let lines = differences(&limited("{0} {1} {2}"), &table(&watched()));
+        assert_eq!(lines[2], "fine grouping for the observer rank 1 compartments 0 3 (0x49): only in A: 3 classes");
+        assert_eq!(lines.len(), 3);
+        let other = watched().replace("compartments 0 3", "compartments 3");
+        let lines = differences(&limited("{0} {1} {2}"), &table(&other));
+        assert_eq!(lines[0], "observer rank 1 compartments 0 3 (0x49): only in A: 2 classes, 3 fine classes");
+        assert!(lines.iter().all(|line| !line.starts_with("fine grouping")), "{lines:?}");
+    }
+
     /// Changes one bit of a level, but not where it would then be mislabelled.
     fn relabel(rng: &mut Rng, level: &mut Level) {
         let changed = Level(level.0 ^ 1 << rng.below(8));
@@ -426,12 +477,30 @@ event 12 internal rank 3 compartments 1 5
         }
     }
 
-    /// Changes the class of one state.
+    /// Changes the class of one state and, where there are fine classes, of all states of its own.
     fn change_class(rng: &mut Rng, observer: &mut Observer) {
         let n = observer.classes.len();
         let mut numbers: Vec<usize> = observer.classes.iter().map(|&class| class as usize).collect();
-        numbers[rng.below(n)] = rng.below(n);
+        let s = rng.below(n);
+        let class = rng.below(n);
+        for u in (0..n).filter(|&u| u == s || observer.fine.is_some() && observer.same_fine_class(s, u)) {
+            numbers[u] = class;
+        }
         observer.classes = crate::part::by_first_appearance(&numbers);
+    }
+
+    /// Takes the fine classes away, makes them the classes, or puts a state into the fine class of another of its class.
+    fn change_fine(rng: &mut Rng, observer: &mut Observer) {
+        let (s, u) = (rng.below(observer.classes.len()), rng.below(observer.classes.len()));
+        observer.fine = match observer.fine.take() {
+            Some(fine) if rng.below(2) == 0 && observer.same_class(s, u) => {
+                let mut numbers: Vec<usize> = fine.iter().map(|&number| number as usize).collect();
+                numbers[s] = numbers[u];
+                Some(crate::part::by_first_appearance(&numbers))
+            }
+            Some(_) => None,
+            None => Some(observer.classes.clone()),
+        };
     }
 
     /// Changes one field of a part at random, perhaps to what it was.
@@ -439,7 +508,7 @@ event 12 internal rank 3 compartments 1 5
         let n = part.states;
         let e = rng.below(part.events.len().max(1));
         let i = rng.below(part.observers.len());
-        match (rng.below(7), part.events.get_mut(e)) {
+        match (rng.below(8), part.events.get_mut(e)) {
             (0, _) => change_level(rng, &mut part.observers, i),
             (1, _) => part.start = rng.below(n),
             (2, _) => change_class(rng, &mut part.observers[i]),
@@ -447,6 +516,7 @@ event 12 internal rank 3 compartments 1 5
             (4, Some(event)) => event.kind = rng.pick(&crate::part::Kind::ALL),
             (5, Some(_)) => drop(part.events.remove(e)),
             (6, _) if part.observers.len() > 1 => drop(part.observers.remove(i)),
+            (7, _) if part.observers.len() == 1 => change_fine(rng, &mut part.observers[0]),
             (_, Some(event)) => relabel(rng, &mut event.level),
             (_, None) => {}
         }

@@ -1,7 +1,7 @@
 //! A part as its record describes it: what all its observers have in common, and a list of the observers. Then the
 //! names that only a table has.
 
-use std::collections::BTreeMap;
+use std::collections::{BTreeMap, BTreeSet};
 
 use crate::level::Level;
 
@@ -49,11 +49,13 @@ impl Event {
 }
 
 /// An observer: its level, and its partition of the states. `classes[s]` is the class of state s; classes are numbered
-/// by first appearance.
+/// by first appearance. The observer of a limited part has a refinement of it too: `fine[s]` is the fine class of state
+/// s, numbered likewise, and each fine class lies inside one class, which is then called coarse.
 #[derive(Clone, PartialEq, Eq, Debug)]
 pub struct Observer {
     pub level: Level,
     pub classes: Vec<u8>,
+    pub fine: Option<Vec<u8>>,
 }
 
 impl Observer {
@@ -61,16 +63,27 @@ impl Observer {
         self.classes[s] == self.classes[t]
     }
 
-    /// The states of each class. Classes come by their smallest state, states ascending.
-    pub fn groups(&self) -> Vec<Vec<usize>> {
-        let mut groups: Vec<Vec<usize>> = Vec::new();
-        for (s, &class) in self.classes.iter().enumerate() {
-            match groups.get_mut(class as usize) {
-                Some(group) => group.push(s),
-                None => groups.push(vec![s]),
-            }
+    /// The fine classes; without a refinement they are the classes.
+    fn finest(&self) -> &[u8] {
+        self.fine.as_ref().unwrap_or(&self.classes)
+    }
+
+    pub fn same_fine_class(&self, s: usize, t: usize) -> bool {
+        self.finest()[s] == self.finest()[t]
+    }
+
+    /// `class`, or `coarse class` where there are fine ones too.
+    pub fn class_word(&self) -> &'static str {
+        match self.fine {
+            Some(_) => "coarse class",
+            None => "class",
         }
-        groups
+    }
+
+    /// The limit of a part that passes: the largest number of fine classes in one class.
+    pub fn limit(&self) -> usize {
+        let fine_in = |group: &Vec<usize>| -> BTreeSet<u8> { group.iter().map(|&s| self.finest()[s]).collect() };
+        groups(&self.classes).iter().map(|group| fine_in(group).len()).max().unwrap_or(0)
     }
 
     /// Is the event low for this observer? Needed for the words of a verdict and for drawings only, as is what it sees.
@@ -90,7 +103,7 @@ impl Observer {
 }
 
 /// A part: the states 0 to `states` - 1, the start and the events with their steps, and one to four observers. Each
-/// observer has a class for each state, and their levels rise by byte.
+/// observer has a class for each state, and their levels rise by byte. Only a part with one observer may be limited.
 #[derive(Clone, PartialEq, Eq, Debug)]
 pub struct Part {
     pub states: usize,
@@ -104,6 +117,11 @@ impl Part {
         self.events.iter().find(|event| event.identifier == identifier)
     }
 
+    /// Has its observer fine classes?
+    pub fn is_limited(&self) -> bool {
+        self.observers.iter().any(|observer| observer.fine.is_some())
+    }
+
     pub fn has_several_observers(&self) -> bool {
         self.observers.len() > 1
     }
@@ -111,6 +129,18 @@ impl Part {
     pub fn observer(&self, level: Level) -> Option<&Observer> {
         self.observers.iter().find(|observer| observer.level == level)
     }
+}
+
+/// The states of each class of a column. Classes come by their smallest state, states ascending.
+pub fn groups(column: &[u8]) -> Vec<Vec<usize>> {
+    let mut groups: Vec<Vec<usize>> = Vec::new();
+    for (s, &class) in column.iter().enumerate() {
+        match groups.get_mut(class as usize) {
+            Some(group) => group.push(s),
+            None => groups.push(vec![s]),
+        }
+    }
+    groups
 }
 
 /// The states of a row, ascending.
@@ -174,13 +204,35 @@ mod tests {
 
     #[test]
     fn groups_come_by_their_smallest_state() {
-        let observer = Observer { level: Level(0), classes: vec![0, 1, 0, 2, 1] };
-        assert_eq!(observer.groups(), [vec![0, 2], vec![1, 4], vec![3]]);
+        assert_eq!(groups(&[0, 1, 0, 2, 1]), [vec![0, 2], vec![1, 4], vec![3]]);
+    }
+
+    fn limited(classes: &[u8], fine: &[u8]) -> Observer {
+        Observer { level: Level(0), classes: classes.to_vec(), fine: Some(fine.to_vec()) }
+    }
+
+    /// The largest number in one class; not that of all fine classes, nor that of classes, nor of states in one.
+    #[test]
+    fn limits() {
+        assert_eq!(limited(&[0, 0, 1, 1, 1, 1], &[0, 0, 1, 1, 2, 2]).limit(), 2);
+        assert_eq!(limited(&[0, 1, 0, 1, 0, 2], &[0, 1, 2, 1, 3, 4]).limit(), 3);
+        assert_eq!(limited(&[0, 1, 2, 0], &[0, 1, 2, 0]).limit(), 1);
+        assert_eq!(limited(&[0, 0, 0], &[0, 1, 2]).limit(), 3);
+        assert_eq!(Observer { level: Level(0), classes: vec![0, 0, 1], fine: None }.limit(), 1);
+    }
+
+    #[test]
+    fn states_of_one_fine_class() {
+        let observer = limited(&[0, 0, 1, 0], &[0, 1, 2, 0]);
+        assert!(observer.same_class(0, 1) && !observer.same_fine_class(0, 1) && observer.same_fine_class(0, 3));
+        let plain = Observer { fine: None, ..observer };
+        assert!(plain.same_fine_class(0, 1) && !plain.same_fine_class(0, 2));
+        assert_eq!((limited(&[0], &[0]).class_word(), plain.class_word()), ("coarse class", "class"));
     }
 
     /// The kinds and ranks of the events of which a test of an observer of rank 1 holds.
     fn those(test: fn(&Observer, &Event) -> bool) -> Vec<(Kind, u8)> {
-        let observer = Observer { level: Level::of_rank(1), classes: vec![0] };
+        let observer = Observer { level: Level::of_rank(1), classes: vec![0], fine: None };
         let mut those = Vec::new();
         for kind in Kind::ALL {
             for rank in 0..=3 {
@@ -208,7 +260,7 @@ mod tests {
 
     #[test]
     fn an_observer_by_its_level() {
-        let observers = [Level(0x40), Level(0x81)].map(|level| Observer { level, classes: vec![0] });
+        let observers = [Level(0x40), Level(0x81)].map(|level| Observer { level, classes: vec![0], fine: None });
         let part = Part { states: 1, start: 0, events: Vec::new(), observers: observers.to_vec() };
         assert_eq!(part.observer(Level(0x81)), Some(&observers[1]));
         assert_eq!(part.observer(Level(0x80)), None);

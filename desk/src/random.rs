@@ -85,13 +85,20 @@ fn observers(rng: &mut Rng, count: usize, n: usize) -> Vec<Observer> {
     while levels.len() < count {
         levels.insert(level(rng).0);
     }
-    levels.into_iter().map(|byte| Observer { level: Level(byte), classes: classes(rng, n) }).collect()
+    levels.into_iter().map(|byte| Observer { level: Level(byte), classes: classes(rng, n), fine: None }).collect()
 }
 
 /// One class, few or many.
 fn classes(rng: &mut Rng, n: usize) -> Vec<u8> {
     let class_bound = rng.pick(&[1, 2, 3, n]);
     let numbers: Vec<usize> = (0..n).map(|_| rng.below(class_bound)).collect();
+    by_first_appearance(&numbers)
+}
+
+/// Classes in which there are one fine class, few or many; none of them in two.
+fn fine_classes(rng: &mut Rng, classes: &[u8]) -> Vec<u8> {
+    let most = rng.pick(&[1, 2, 3, classes.len()]);
+    let numbers: Vec<usize> = classes.iter().map(|&class| class as usize * most + rng.below(most)).collect();
     by_first_appearance(&numbers)
 }
 
@@ -114,11 +121,20 @@ pub fn several(rng: &mut Rng) -> Part {
     part_of(rng, count)
 }
 
-/// A part of either sort.
+/// Any part that a record of kind 3 can hold.
+pub fn limited(rng: &mut Rng) -> Part {
+    let mut part = part(rng);
+    let observer = &mut part.observers[0];
+    observer.fine = Some(fine_classes(rng, &observer.classes));
+    part
+}
+
+/// A part of any kind.
 pub fn any(rng: &mut Rng) -> Part {
-    match rng.below(2) {
+    match rng.below(3) {
         0 => part(rng),
-        _ => several(rng),
+        1 => several(rng),
+        _ => limited(rng),
     }
 }
 
@@ -129,7 +145,7 @@ pub fn full(n: usize, m: usize) -> Part {
         let identifier = if e == 0 { 0 } else { u16::MAX - (m - 1 - e) as u16 };
         events.push(Event { identifier, kind: Kind::ALL[e % 3], level: Level(0xFF), rows: vec![all(n); n] });
     }
-    let observer = Observer { level: Level(0xFF), classes: (0..n as u8).collect() };
+    let observer = Observer { level: Level(0xFF), classes: (0..n as u8).collect(), fine: None };
     Part { states: n, start: n - 1, events, observers: vec![observer] }
 }
 
@@ -138,6 +154,14 @@ pub fn full_for(n: usize, m: usize, observer_count: usize) -> Part {
     let mut part = full(n, m);
     let level = |i: usize| Level(0xFF - (observer_count - 1 - i) as u8);
     part.observers = (0..observer_count).map(|i| Observer { level: level(i), ..part.observers[0].clone() }).collect();
+    part
+}
+
+/// The full part as a limited one: all states are in one class, and each is its own fine class.
+pub fn full_limited(n: usize, m: usize) -> Part {
+    let mut part = full(n, m);
+    let observer = &mut part.observers[0];
+    observer.fine = Some(std::mem::replace(&mut observer.classes, vec![0; n]));
     part
 }
 

@@ -8,7 +8,7 @@ use crate::part::{
 use crate::tokens::{not_text, split, Fault, Place, Token, What};
 
 /// The words of the form. None of them can name a state.
-const KEYWORDS: [&str; 12] = [
+const KEYWORDS: [&str; 13] = [
     "part",
     "observer",
     "rank",
@@ -17,6 +17,7 @@ const KEYWORDS: [&str; 12] = [
     "states",
     "start",
     "classes",
+    "fine",
     "event",
     "input",
     "output",
@@ -24,6 +25,44 @@ const KEYWORDS: [&str; 12] = [
 ];
 
 const NAME_OR_START: &str = "a state's name or a line that begins with 'start'";
+
+const FINE_FOR_SEVERAL: &str = "expected 'fine' only in a table with one observer, found several observers";
+
+/// What a line of classes is about, for what it asks and for the words of its faults.
+struct Column<'a> {
+    keyword: &'static str,
+    /// `class` or `fine class`.
+    class: &'static str,
+    /// Whose the classes are; nothing for those of the first observer.
+    whose: String,
+    /// The classes that have fine classes in them; none where it is these that are read.
+    coarse: Option<&'a [u8]>,
+}
+
+impl Column<'_> {
+    fn classes(whose: String) -> Column<'static> {
+        Column { keyword: "classes", class: "class", whose, coarse: None }
+    }
+
+    fn fine(coarse: &[u8]) -> Column<'_> {
+        Column { keyword: "fine", class: "fine class", whose: String::new(), coarse: Some(coarse) }
+    }
+
+    /// May the state stand in the class that begins with `first`? A class has no state that stands in one already, and
+    /// a fine class only states of one class.
+    fn admits(&self, token: &Token, s: usize, first: usize, group_of: &[Option<usize>]) -> Result<(), Fault> {
+        if group_of[s].is_some() {
+            let (class, whose) = (self.class, &self.whose);
+            let message = format!("state {s} stands in the {class}es{whose} twice, expected each state once");
+            return fault(token.place, message);
+        }
+        if self.coarse.is_some_and(|coarse| coarse[s] != coarse[first]) {
+            let why = "as a fine class lies inside one class (refusal 21)";
+            return unexpected(token, &format!("a state of the class of state {first}, {why}"));
+        }
+        Ok(())
+    }
+}
 
 /// The states as their line gives them: how many, and their names if there are any.
 struct States {
@@ -185,10 +224,27 @@ impl Reader {
                 return fault(self.peek().place, message);
             }
             let level = self.observer(observers.last())?;
-            let classes = self.classes(states, &format!(" of the observer {}", level.text_and_byte()))?;
-            observers.push(Observer { level, classes });
+            let column = Column::classes(format!(" of the observer {}", level.text_and_byte()));
+            let classes = self.column(states, &column)?;
+            if self.at_word("fine") {
+                return fault(self.peek().place, FINE_FOR_SEVERAL.to_string());
+            }
+            observers.push(Observer { level, classes, fine: None });
         }
         Ok(())
+    }
+
+    /// [ fine ], which belongs to the classes of an only observer.
+    fn fine(&mut self, states: &States, coarse: &[u8]) -> Result<Option<Vec<u8>>, Fault> {
+        if !self.at_word("fine") {
+            return Ok(None);
+        }
+        let place = self.peek().place;
+        let fine = self.column(states, &Column::fine(coarse))?;
+        match self.at_word("observer") {
+            true => fault(place, FINE_FOR_SEVERAL.to_string()),
+            false => Ok(Some(fine)),
+        }
     }
 
     /// states = "states" ( number | name { name } )
@@ -270,11 +326,10 @@ impl Reader {
         Ok(start)
     }
 
-    /// classes = "classes" class { class }; classes go on over lines that begin with `{`. `whose` says, where it is not
-    /// the first, which observer's they are.
-    fn classes(&mut self, states: &States, whose: &str) -> Result<Vec<u8>, Fault> {
+    /// classes = "classes" class { class }, fine = "fine" class { class }; they go on over lines that begin with `{`.
+    fn column(&mut self, states: &States, column: &Column) -> Result<Vec<u8>, Fault> {
         let place = self.peek().place;
-        self.keyword("classes")?;
+        self.keyword(column.keyword)?;
         let mut group_of = vec![None; states.count];
         let mut groups = 0;
         loop {
@@ -284,18 +339,18 @@ impl Reader {
             if groups > 0 && self.peek().what == What::LineEnd {
                 break;
             }
-            self.class(states, whose, groups, &mut group_of)?;
+            self.class(states, column, groups, &mut group_of)?;
             groups += 1;
         }
         self.line_end()?;
-        numbered(place, whose, &group_of)
+        numbered(place, column, &group_of)
     }
 
     /// class = "{" state { state } "}"
     fn class(
         &mut self,
         states: &States,
-        whose: &str,
+        column: &Column,
         group: usize,
         group_of: &mut [Option<usize>],
     ) -> Result<(), Fault> {
@@ -304,15 +359,12 @@ impl Reader {
             return unexpected(self.peek(), wanted);
         }
         self.take();
-        let mut or = "";
-        while self.peek().what != What::Close || or.is_empty() {
-            let place = self.peek().place;
-            let s = self.state(states, or)?;
-            if group_of[s].is_some() {
-                return fault(place, format!("state {s} stands in the classes{whose} twice, expected each state once"));
-            }
+        let mut first = None;
+        while self.peek().what != What::Close || first.is_none() {
+            let token = self.peek().clone();
+            let s = self.state(states, if first.is_some() { " or '}'" } else { "" })?;
+            column.admits(&token, s, *first.get_or_insert(s), group_of)?;
             group_of[s] = Some(group);
-            or = " or '}'";
         }
         self.take();
         Ok(())
@@ -410,32 +462,40 @@ impl Reader {
         Ok(row)
     }
 
-    /// table = "part", observer, states, start, classes, { observer, classes }, { event }
+    /// table = "part", observer, states, start, classes, [ fine ] or { observer, classes }, { event }
     fn table(&mut self) -> Result<Table, Fault> {
         self.keyword("part")?;
         self.line_end()?;
         let level = self.observer(None)?;
         let states = self.states()?;
         let start = self.start(&states)?;
-        let classes = self.classes(&states, "")?;
-        let mut observers = vec![Observer { level, classes }];
+        let classes = self.column(&states, &Column::classes(String::new()))?;
+        let fine = self.fine(&states, &classes)?;
+        let mut observers = vec![Observer { level, classes, fine }];
         self.further_observers(&states, &mut observers)?;
-        let or = if observers.len() < MAX_OBSERVERS { "'observer', " } else { "" };
         let mut names = Names { states: states.names.clone(), ..Names::default() };
-        let events = self.events(&states, &mut names, or)?;
+        let events = self.events(&states, &mut names, before_events(&observers))?;
         Ok(Table { part: Part { states: states.count, start, events, observers }, names })
     }
 }
 
-/// The class numbers, if each state has a group.
-fn numbered(place: Place, whose: &str, group_of: &[Option<usize>]) -> Result<Vec<u8>, Fault> {
-    let mut groups = Vec::new();
-    for (s, group) in group_of.iter().enumerate() {
-        match group {
-            Some(group) => groups.push(*group),
-            None => return fault(place, format!("state {s} stands in no class{whose}, expected each state in one")),
-        }
+/// What else may stand before the first event, behind the classes of these observers.
+fn before_events(observers: &[Observer]) -> &'static str {
+    match observers {
+        [only] if only.fine.is_some() => "",
+        [_] => "'fine', 'observer', ",
+        several if several.len() < MAX_OBSERVERS => "'observer', ",
+        _ => "",
     }
+}
+
+/// The class numbers, if each state has a group.
+fn numbered(place: Place, column: &Column, group_of: &[Option<usize>]) -> Result<Vec<u8>, Fault> {
+    if let Some(s) = group_of.iter().position(Option::is_none) {
+        let (class, whose) = (column.class, &column.whose);
+        return fault(place, format!("state {s} stands in no {class}{whose}, expected each state in one"));
+    }
+    let groups: Vec<usize> = group_of.iter().flatten().copied().collect();
     Ok(by_first_appearance(&groups))
 }
 
@@ -497,6 +557,19 @@ event 7 \"send it\" input rank 2 compartments none
   idle -> sent full
 ";
 
+    /// A limited part.
+    const LIMITED: &str = "\
+part
+observer rank 0 compartments none
+states idle sent full lost
+start idle
+classes {idle sent} {full lost}
+fine {lost} {full}          # each apart
+  {sent idle}
+event 7 \"send it\" input rank 2 compartments none
+  idle -> sent full
+";
+
     fn parse(text: &str) -> Result<Table, String> {
         read(text.as_bytes()).map_err(|fault| fault.to_string())
     }
@@ -511,7 +584,7 @@ event 7 \"send it\" input rank 2 compartments none
     fn a_table() {
         let Table { part, names } = parse(GOOD).unwrap();
         assert_eq!((part.states, part.start), (3, 0));
-        assert_eq!(part.observers, [Observer { level: Level(0x49), classes: vec![0, 0, 1] }]);
+        assert_eq!(part.observers, [Observer { level: Level(0x49), classes: vec![0, 0, 1], fine: None }]);
         let rows: Vec<Vec<u64>> = part.events.iter().map(|event| event.rows.clone()).collect();
         assert_eq!(rows, [[6, 2, 0], [0, 0, 0], [0, 0, 1]]);
         let heads: Vec<(u16, Kind, u8)> = part.events.iter().map(|e| (e.identifier, e.kind, e.level.0)).collect();
@@ -641,7 +714,7 @@ event 7 \"send it\" input rank 2 compartments none
 
     #[test]
     fn faults_of_events() {
-        assert_eq!(said("event 7", "7"), "7:1: expected 'observer', 'event' or the end of the file, found '7'");
+        assert_eq!(said("event 7", "7"), "7:1: expected 'fine', 'observer', 'event' or the end of the file, found '7'");
         assert_eq!(said("event 7", "event 65536"), "7:7: expected an identifier from 0 to 65535, found '65536'");
         assert_eq!(said("event 7", "event send"), "7:7: expected an identifier from 0 to 65535, found 'send'");
         let falling = "10:7: expected an identifier above 7, the one before it; found";
@@ -694,8 +767,9 @@ event 7 \"send it\" input rank 2 compartments none
     fn several_observers() {
         let Table { part, names } = parse(WATCHED).unwrap();
         let columns = [(0x00, [0, 0, 0]), (0x49, [0, 0, 1]), (0x80, [0, 1, 2])];
-        let observers = columns.map(|(byte, classes)| Observer { level: Level(byte), classes: classes.to_vec() });
-        assert_eq!(part.observers, observers);
+        let observer =
+            |(byte, classes): (u8, [u8; 3])| Observer { level: Level(byte), classes: classes.to_vec(), fine: None };
+        assert_eq!(part.observers, columns.map(observer));
         assert_eq!((part.states, part.start, part.events[0].rows.as_slice()), (3, 0, &[6, 0, 0][..]));
         assert_eq!(names.states, ["idle", "sent", "full"]);
         assert_eq!(names.event(7), Some("send it"));
@@ -771,6 +845,84 @@ event 7 \"send it\" input rank 2 compartments none
         assert_eq!(first, "5:1: state 1 stands in no class, expected each state in one");
     }
 
+    /// What is said about LIMITED with one piece of its text replaced.
+    fn said_limited(old: &str, new: &str) -> String {
+        assert!(LIMITED.contains(old), "{old}");
+        parse(&LIMITED.replacen(old, new, 1)).unwrap_err()
+    }
+
+    #[test]
+    fn a_limited_part() {
+        let part = parse(LIMITED).unwrap().part;
+        let observer = Observer { level: Level(0), classes: vec![0, 0, 1, 1], fine: Some(vec![0, 0, 1, 2]) };
+        assert_eq!(part.observers, [observer]);
+        assert_eq!((part.states, part.events[0].rows.as_slice()), (4, &[6, 0, 0, 0][..]));
+        let other = LIMITED.replace("{lost} {full}          # each apart\n  {sent idle}", "{0 1} {2} {3}");
+        assert_eq!(parse(&other).unwrap().part, part);
+        let none = LIMITED.replace("fine {lost} {full}          # each apart\n  {sent idle}\n", "");
+        assert_eq!(parse(&none).unwrap().part.observers[0].fine, None);
+        let equal = LIMITED.replace("{lost} {full}", "{lost full}");
+        assert_eq!(parse(&equal).unwrap().part.observers[0].fine, Some(vec![0, 0, 1, 1]));
+        let single = LIMITED.replace("{sent idle}", "{sent} {idle}");
+        assert_eq!(parse(&single).unwrap().part.observers[0].fine, Some(vec![0, 1, 2, 3]));
+    }
+
+    /// A fine class that is not inside one class, at the first state that is outside.
+    #[test]
+    fn fine_classes_across_two_classes() {
+        let inside = "as a fine class lies inside one class (refusal 21), found";
+        let expected = |state| format!("expected a state of the class of state {state}, {inside}");
+        let two = said_limited("{lost} {full}", "{lost idle} {full}");
+        assert_eq!(two, format!("6:12: {} 'idle'", expected(3)));
+        let third = said_limited("{lost} {full}", "{3 full sent}");
+        assert_eq!(third, format!("6:14: {} 'sent'", expected(3)));
+        let last = said_limited("{lost} {full}", "{lost} {2 1}");
+        assert_eq!(last, format!("6:16: {} '1'", expected(2)));
+        let other_classes = said_limited("{idle sent} {full lost}", "{idle} {sent full lost}");
+        assert_eq!(other_classes, format!("7:9: {} 'idle'", expected(1)));
+    }
+
+    #[test]
+    fn other_faults_of_fine_classes() {
+        let state = "expected a state from 0 to 3 or a state's name";
+        let twice = "7:16: state 3 stands in the fine classes twice, expected each state once";
+        assert_eq!(said_limited("{sent idle}", "{sent idle} {lost}"), twice);
+        let none = "6:1: state 3 stands in no fine class, expected each state in one";
+        assert_eq!(said_limited("{lost} {full}", "{full}"), none);
+        assert_eq!(said_limited("fine {lost} {full}", "fine {}"), format!("6:7: {state}, found '}}'"));
+        assert_eq!(said_limited("fine {lost} {full}", "fine {4}"), format!("6:7: {state}, found '4'"));
+        assert_eq!(said_limited("fine {lost} {full}", "fine lost"), "6:6: expected '{', found 'lost'");
+        let end = "6:13: expected '{' or the end of the line, found 'full'";
+        assert_eq!(said_limited("fine {lost} {full}", "fine {lost} full"), end);
+        let nothing = LIMITED.replace(" {lost} {full}          # each apart\n  {sent idle}", "");
+        assert_eq!(parse(&nothing).unwrap_err(), "6:5: expected '{', found the end of the line");
+        let word = "3:8: expected a number of states or a state's name, found 'fine', a word of the form";
+        assert_eq!(said_limited("states idle", "states fine"), word);
+    }
+
+    #[test]
+    fn fine_classes_at_another_place() {
+        let second = LIMITED.replace("event 7", "fine {0 1} {2} {3}\nevent 7");
+        assert_eq!(parse(&second).unwrap_err(), "8:1: expected 'event' or the end of the file, found 'fine'");
+        let before = LIMITED.replace("classes", "fine");
+        assert_eq!(parse(&before).unwrap_err(), "5:1: expected 'classes', found 'fine'");
+        let behind = LIMITED.to_string() + "fine {0 1} {2} {3}\n";
+        let state = "expected a state from 0 to 3 or a state's name or 'event', found 'fine'";
+        assert_eq!(parse(&behind).unwrap_err(), format!("10:1: {state}"));
+    }
+
+    /// The fault is at the `fine` line, whether it is that of the first observer or that of a further one.
+    #[test]
+    fn fine_classes_for_several_observers() {
+        let several = "expected 'fine' only in a table with one observer, found several observers";
+        let second = "observer rank 1 compartments none\nclasses {0 1 2 3}\nevent 7";
+        assert_eq!(said_limited("event 7", second), format!("6:1: {several}"));
+        let third = "observer rank 2 compartments none\n";
+        assert_eq!(said_watched(third, &format!("  fine {{0 1 2}}\n{third}")), format!("8:3: {several}"));
+        assert_eq!(said_watched("event 7", "fine {0} {1} {2}\nevent 7"), format!("13:1: {several}"));
+        assert_eq!(said_watched("observer rank 1", "fine {0} {1 2}\nobserver rank 1"), format!("6:1: {several}"));
+    }
+
     #[test]
     fn a_level_alone() {
         assert_eq!(read_level(" rank 1  compartments 3 0"), Ok(Level(0x49)));
@@ -818,7 +970,7 @@ event 7 \"send it\" input rank 2 compartments none
     /// Every beginning of a text is read or has a fault inside it.
     #[test]
     fn cut_texts() {
-        for whole in [GOOD, WATCHED] {
+        for whole in [GOOD, WATCHED, LIMITED] {
             for end in 0..whole.len() {
                 let text = &whole[..end];
                 if let Err(fault) = read(text.as_bytes()) {
@@ -864,5 +1016,6 @@ event 7 \"send it\" input rank 2 compartments none
     fn mangled_texts() {
         mangled(GOOD);
         mangled(WATCHED);
+        mangled(LIMITED);
     }
 }

@@ -1,10 +1,11 @@
 //! The part record: bytes to a part and back. Document 01, "The part record" and "Refusals out of the input", and
-//! document 02, d and k. Where a file is not a well-formed record, the first condition that stands in the way is told.
-//! The conditions are tested in the order 1 to 5, 20, 6, 7, 16, 8, each on the whole record; 20 is about kind 2 alone.
+//! document 02, d, k and l. Where a file is not a well-formed record, the first condition that stands in the way is
+//! told. The conditions are tested in the order 1 to 5, 20, 6, 21, 7, 16, 8, each on the whole record; 20 is about kind 2
+//! alone and 21 about kind 3.
 
 use std::fmt;
 
-use crate::kinds::{KINDS, ONE_OBSERVER, SEVERAL_OBSERVERS};
+use crate::kinds::{KINDS, LIMITED, ONE_OBSERVER, SEVERAL_OBSERVERS};
 use crate::level::Level;
 use crate::part::{states_of, Event, Kind, Observer, Part, MAX_EVENTS, MAX_OBSERVERS, MAX_STATES};
 
@@ -51,7 +52,7 @@ fn u64_at(bytes: &[u8], at: usize) -> u64 {
 }
 
 /// Where the fields of a record stand. Behind the header are four bytes: the first, n, the start state and m. Then come
-/// the levels that are listed, the class columns, the entries and the rows.
+/// the levels that are listed, the columns, the entries and the rows.
 struct Layout {
     kind: u16,
     observers: usize,
@@ -60,7 +61,7 @@ struct Layout {
 }
 
 impl Layout {
-    /// Kind 1 has its one observer's level as the first byte, kind 2 the number of its observers.
+    /// Kind 2 has the number of its observers as the first byte, the others the level of their only one.
     fn new(kind: u16, first: u8, n: usize, m: usize) -> Layout {
         let observers = if kind == SEVERAL_OBSERVERS { first as usize } else { 1 };
         Layout { kind, observers, n, m }
@@ -78,9 +79,13 @@ impl Layout {
         }
     }
 
-    /// The class columns: one for each observer.
+    fn is_limited(&self) -> bool {
+        self.kind == LIMITED
+    }
+
+    /// The columns: the classes of each observer, and behind them the fine classes of a limited part.
     fn columns(&self) -> usize {
-        self.observers
+        self.observers + self.is_limited() as usize
     }
 
     fn column_at(&self, column: usize) -> usize {
@@ -101,12 +106,14 @@ impl Layout {
         self.row_at(self.m, 0) - HEADER
     }
 
-    /// `2 states and 1 event`; where the observers are listed, their number comes first.
+    /// `2 states and 1 event`. Before them come the number of the observers where they are listed, and that of the
+    /// columns where one observer has two.
     fn sizes(&self) -> String {
         let states_and_events = format!("{} and {}", counted(self.n, "state"), counted(self.m, "event"));
-        match self.lists_observers() {
-            true => format!("{}, {states_and_events}", counted(self.observers, "observer")),
-            false => states_and_events,
+        match self.kind {
+            SEVERAL_OBSERVERS => format!("{}, {states_and_events}", counted(self.observers, "observer")),
+            LIMITED => format!("{}, {states_and_events}", counted(self.columns(), "column")),
+            _ => states_and_events,
         }
     }
 }
@@ -191,34 +198,60 @@ fn observer_levels(bytes: &[u8], layout: &Layout) -> Result<Vec<Level>, Misfit> 
     Ok(levels)
 }
 
-/// Condition 6 for the column at an offset; gives its classes. `whose` says which observer's they are.
-fn classes(bytes: &[u8], at: usize, n: usize, whose: &str) -> Result<Vec<u8>, Misfit> {
+/// Where a column is not numbered by first appearance: the first state whose number is too large, and the largest that
+/// it may have.
+fn misnumbered(column: &[u8]) -> Option<(usize, u8)> {
     let mut next = 0;
-    for s in 0..n {
-        let class = bytes[at + s];
+    for (s, &class) in column.iter().enumerate() {
         if class > next {
-            let expected = if next == 0 { "0".to_string() } else { format!("0 to {next}") };
-            return misfit(6, at + s, format!("the class of state {s}{whose} is {class}, expected {expected}"));
+            return Some((s, next));
         }
         if class == next {
             next += 1;
         }
     }
-    Ok(bytes[at..at + n].to_vec())
+    None
+}
+
+/// The column at an offset, numbered by first appearance; otherwise the condition holds. `what` is a number in it, and
+/// `whose` says which observer's the column is.
+fn column(bytes: &[u8], at: usize, n: usize, condition: u8, [what, whose]: [&str; 2]) -> Result<Vec<u8>, Misfit> {
+    let column = &bytes[at..at + n];
+    if let Some((s, most)) = misnumbered(column) {
+        let expected = if most == 0 { "0".to_string() } else { format!("0 to {most}") };
+        let message = format!("the {what} of state {s}{whose} is {}, expected {expected}", column[s]);
+        return misfit(condition, at + s, message);
+    }
+    Ok(column.to_vec())
 }
 
 /// Conditions 20 and 6: gives the observers with their classes.
 fn observers(bytes: &[u8], layout: &Layout) -> Result<Vec<Observer>, Misfit> {
     let mut observers = Vec::new();
-    for (column, level) in observer_levels(bytes, layout)?.into_iter().enumerate() {
+    for (i, level) in observer_levels(bytes, layout)?.into_iter().enumerate() {
         let whose = match layout.lists_observers() {
             true => format!(" for the observer {}", level.text_and_byte()),
             false => String::new(),
         };
-        let classes = classes(bytes, layout.column_at(column), layout.n, &whose)?;
-        observers.push(Observer { level, classes });
+        let classes = column(bytes, layout.column_at(i), layout.n, 6, ["class", &whose])?;
+        observers.push(Observer { level, classes, fine: None });
     }
     Ok(observers)
+}
+
+/// Condition 21: gives the fine classes, each of them inside one class.
+fn fine_classes(bytes: &[u8], layout: &Layout, classes: &[u8]) -> Result<Vec<u8>, Misfit> {
+    let at = layout.column_at(layout.observers);
+    let fine = column(bytes, at, layout.n, 21, ["fine class", ""])?;
+    for (s, &number) in fine.iter().enumerate() {
+        let first = fine.iter().position(|&other| other == number).unwrap_or(s);
+        let [here, there] = [classes[s], classes[first]];
+        if here != there {
+            let both = format!("the fine class of state {s} is {number}, as that of state {first}");
+            return misfit(21, at + s, format!("{both}, but their classes are {here} and {there}, expected the same"));
+        }
+    }
+    Ok(fine)
 }
 
 /// Condition 7: gives the events, still without steps.
@@ -281,7 +314,10 @@ pub fn read(bytes: &[u8]) -> Result<Part, Misfit> {
     let (n, m) = counts(bytes)?;
     let layout = Layout::new(kind, bytes[FIRST_AT], n, m);
     length(bytes, &layout)?;
-    let observers = observers(bytes, &layout)?;
+    let mut observers = observers(bytes, &layout)?;
+    if layout.is_limited() {
+        observers[0].fine = Some(fine_classes(bytes, &layout, &observers[0].classes)?);
+    }
     let mut events = entries(bytes, &layout)?;
     labels(&layout, &observers, &events)?;
     for (e, event) in events.iter_mut().enumerate() {
@@ -292,10 +328,11 @@ pub fn read(bytes: &[u8]) -> Result<Part, Misfit> {
     Ok(Part { states: n, start: bytes[START_AT] as usize, events, observers })
 }
 
-/// The record of a part: of kind 1 where it has one observer, otherwise of kind 2.
+/// The record of a part: of kind 2 where it has several observers, of kind 3 where it is limited, otherwise of kind 1.
 pub fn write(part: &Part) -> Vec<u8> {
     let levels: Vec<u8> = part.observers.iter().map(|observer| observer.level.0).collect();
     let (kind, first, listed) = match levels.as_slice() {
+        [level] if part.is_limited() => (LIMITED, *level, &[][..]),
         [level] => (ONE_OBSERVER, *level, &[][..]),
         levels => (SEVERAL_OBSERVERS, levels.len() as u8, levels),
     };
@@ -307,6 +344,7 @@ pub fn write(part: &Part) -> Vec<u8> {
     bytes.extend(listed);
     for observer in &part.observers {
         bytes.extend(&observer.classes);
+        bytes.extend(observer.fine.iter().flatten());
     }
     for event in &part.events {
         bytes.extend(event.identifier.to_le_bytes());
@@ -323,6 +361,7 @@ pub fn write(part: &Part) -> Vec<u8> {
 #[cfg(test)]
 mod tests {
     use super::*;
+    use crate::part::by_first_appearance;
     use crate::random::{self, Rng};
 
     /// Two states in one class; high input 1 toggles, low output 2 stays.
@@ -379,7 +418,7 @@ mod tests {
     fn the_fields_of_a_record() {
         let part = read(&toggle()).unwrap();
         assert_eq!((part.states, part.start), (2, 0));
-        assert_eq!(part.observers, [Observer { level: Level(0), classes: vec![0, 0] }]);
+        assert_eq!(part.observers, [Observer { level: Level(0), classes: vec![0, 0], fine: None }]);
         assert_eq!((part.events[0].identifier, part.events[0].kind), (1, Kind::Input));
         assert_eq!((part.events[1].identifier, part.events[1].kind), (2, Kind::Output));
         assert!(!part.observers[0].is_low(&part.events[0]) && part.observers[0].is_low(&part.events[1]));
@@ -396,8 +435,8 @@ mod tests {
         assert_eq!(said(&toggle()[..51]), two);
         let two = "2 at 0: the length is 16777262, but the number of bytes after the first six is 46";
         assert_eq!(said_with(3, 1), two);
-        for (byte, value, kind) in [(4, 0, 0), (4, 3, 3), (5, 1, 257)] {
-            assert_eq!(said_with(byte, value), format!("3 at 4: the record's kind is {kind}, expected 1 or 2"));
+        for (byte, value, kind) in [(4, 0, 0), (4, 4, 4), (5, 1, 257)] {
+            assert_eq!(said_with(byte, value), format!("3 at 4: the record's kind is {kind}, expected 1, 2 or 3"));
         }
     }
 
@@ -479,8 +518,9 @@ mod tests {
         let part = read(&watched()).unwrap();
         let toggle = read(&toggle()).unwrap();
         let columns = [(0x00, [0, 0]), (0x40, [0, 1]), (0x81, [0, 0])];
-        let observers = columns.map(|(byte, classes)| Observer { level: Level(byte), classes: classes.to_vec() });
-        assert_eq!(part, Part { observers: observers.to_vec(), ..toggle });
+        let observer =
+            |(byte, classes): (u8, [u8; 2])| Observer { level: Level(byte), classes: classes.to_vec(), fine: None };
+        assert_eq!(part, Part { observers: columns.map(observer).to_vec(), ..toggle });
         assert_eq!(write(&part), watched());
     }
 
@@ -505,7 +545,7 @@ mod tests {
         assert_eq!(said(&watched()[..4]), "1 at 4: the file has 4 bytes, expected 6 or more");
         let two = "2 at 0: the length is 53, but the number of bytes after the first six is 52";
         assert_eq!(said(&watched()[..58]), two);
-        assert_eq!(watched_with(&[(4, 3)]), "3 at 4: the record's kind is 3, expected 1 or 2");
+        assert_eq!(watched_with(&[(4, 4)]), "3 at 4: the record's kind is 4, expected 1, 2 or 3");
         assert_eq!(said(&[3, 0, 0, 0, 2, 0, 2, 1, 0]), "4 at 6: the body has 3 bytes, expected 4 or more");
         assert_eq!(watched_with(&[(7, 0)]), "4 at 7: the number of states is 0, expected 1 to 64");
         assert_eq!(watched_with(&[(8, 2)]), "4 at 8: the start state is 2, expected a state below 2");
@@ -610,16 +650,144 @@ mod tests {
         assert_eq!(said(&five), "20 at 6: the number of observers is 5, expected 2 to 4");
     }
 
+    /// A record of kind 3: high input 1 turns 0 to 1 and 2 to 3, low output 2 stays. The classes are 0 0 1 1, the fine
+    /// ones 0 1 2 2.
+    fn limited() -> Vec<u8> {
+        let mut bytes = vec![0x54, 0, 0, 0, 3, 0, 0, 4, 0, 2, 0, 0, 1, 1, 0, 1, 2, 2, 1, 0, 0, 0x40, 2, 0, 1, 0];
+        for row in [2u64, 2, 8, 8, 1, 2, 4, 8] {
+            bytes.extend(row.to_le_bytes());
+        }
+        bytes
+    }
+
+    /// What is said of that record with some of its bytes changed.
+    fn limited_with(changes: &[(usize, u8)]) -> String {
+        said(&changed(limited(), changes))
+    }
+
+    #[test]
+    fn the_fields_of_a_record_of_kind_3() {
+        let part = read(&limited()).unwrap();
+        assert_eq!((part.states, part.start, part.events.len()), (4, 0, 2));
+        let observer = Observer { level: Level(0), classes: vec![0, 0, 1, 1], fine: Some(vec![0, 1, 2, 2]) };
+        assert_eq!(part.observers, [observer]);
+        let heads: Vec<(u16, Kind, u8)> = part.events.iter().map(|e| (e.identifier, e.kind, e.level.0)).collect();
+        assert_eq!(heads, [(1, Kind::Input, 0x40), (2, Kind::Output, 0)]);
+        assert_eq!((&part.events[0].rows, &part.events[1].rows), (&vec![2, 2, 8, 8], &vec![1, 2, 4, 8]));
+        assert_eq!(write(&part), limited());
+    }
+
+    /// The kind stays where the fine classes are the classes, and goes where there are none.
+    #[test]
+    fn fine_classes_that_are_the_classes() {
+        let bytes = changed(limited(), &[(15, 0), (16, 1), (17, 1)]);
+        let mut part = read(&bytes).unwrap();
+        assert_eq!(part.observers[0].fine.as_ref(), Some(&part.observers[0].classes));
+        assert_eq!(write(&part), bytes);
+        part.observers[0].fine = None;
+        let plain = write(&part);
+        assert_eq!(plain[..6], [0x50, 0, 0, 0, 1, 0]);
+        assert_eq!(plain[6..], [&bytes[6..14], &bytes[18..]].concat());
+    }
+
+    #[test]
+    fn conditions_1_to_5_of_kind_3() {
+        assert_eq!(said(&limited()[..5]), "1 at 5: the file has 5 bytes, expected 6 or more");
+        let two = "2 at 0: the length is 84, but the number of bytes after the first six is 83";
+        assert_eq!(said(&limited()[..89]), two);
+        assert_eq!(limited_with(&[(4, 4)]), "3 at 4: the record's kind is 4, expected 1, 2 or 3");
+        assert_eq!(said(&[3, 0, 0, 0, 3, 0, 2, 1, 0]), "4 at 6: the body has 3 bytes, expected 4 or more");
+        assert_eq!(limited_with(&[(7, 65)]), "4 at 7: the number of states is 65, expected 1 to 64");
+        assert_eq!(limited_with(&[(8, 4)]), "4 at 8: the start state is 4, expected a state below 4");
+        assert_eq!(limited_with(&[(9, 33)]), "4 at 9: the number of events is 33, expected 0 to 32");
+        let needs = |sizes: &str, needed| format!("5 at 0: the length is 84, but {sizes} need {needed}");
+        assert_eq!(limited_with(&[(9, 1)]), needs("2 columns, 4 states and 1 event", 48));
+        assert_eq!(limited_with(&[(7, 3)]), needs("2 columns, 3 states and 2 events", 66));
+        assert_eq!(limited_with(&[(4, 1)]), needs("4 states and 2 events", 80));
+        assert_eq!(limited_with(&[(4, 2), (6, 1)]), needs("1 observer, 4 states and 2 events", 81));
+        let three = "5 at 0: the length is 46, but 2 columns, 2 states and 2 events need 48";
+        assert_eq!(said_with(4, 3), three);
+    }
+
+    /// 6 is about the first column alone, 21 about the second.
+    #[test]
+    fn conditions_6_and_21_of_kind_3() {
+        assert_eq!(limited_with(&[(10, 1)]), "6 at 10: the class of state 0 is 1, expected 0");
+        assert_eq!(limited_with(&[(13, 3)]), "6 at 13: the class of state 3 is 3, expected 0 to 2");
+        assert_eq!(limited_with(&[(14, 1)]), "21 at 14: the fine class of state 0 is 1, expected 0");
+        assert_eq!(limited_with(&[(15, 2)]), "21 at 15: the fine class of state 1 is 2, expected 0 to 1");
+        assert_eq!(limited_with(&[(17, 255)]), "21 at 17: the fine class of state 3 is 255, expected 0 to 3");
+        let across = |byte: usize, s, number, first| {
+            let both = format!("the fine class of state {s} is {number}, as that of state {first}");
+            format!("21 at {byte}: {both}, but their classes are 1 and 0, expected the same")
+        };
+        assert_eq!(limited_with(&[(16, 1)]), across(16, 2, 1, 1));
+        assert_eq!(limited_with(&[(17, 0)]), across(17, 3, 0, 0));
+        assert_eq!(limited_with(&[(16, 1), (17, 0)]), across(16, 2, 1, 1));
+        assert_eq!(limited_with(&[(16, 0), (17, 3)]), "21 at 17: the fine class of state 3 is 3, expected 0 to 2");
+    }
+
+    /// Every second column of numbers to 4 beside every first one of numbers to 2: 21 comes exactly where the numbers are
+    /// not those of first appearance, or two states with one number have different classes.
+    #[test]
+    fn condition_21_exactly() {
+        let columns =
+            |most: usize| (0..(most + 1).pow(4)).map(move |i| [0, 1, 2, 3].map(|s| i / (most + 1).pow(s) % (most + 1)));
+        let numbered =
+            |column: &[usize; 4]| by_first_appearance(column).iter().zip(column).all(|(&a, &b)| a as usize == b);
+        let mut counts = [0; 2];
+        for classes in columns(2).filter(numbered) {
+            for fine in columns(4) {
+                let two = (0..4).any(|s| (0..s).any(|t| fine[s] == fine[t] && classes[s] != classes[t]));
+                let fits = numbered(&fine) && !two;
+                let changes: Vec<(usize, u8)> = (0..8).map(|i| (10 + i, [classes, fine].concat()[i] as u8)).collect();
+                let misfit = read(&changed(limited(), &changes)).err().map(|misfit| misfit.condition);
+                assert_eq!(misfit, (!fits).then_some(21), "{classes:?} {fine:?}");
+                counts[fits as usize] += 1;
+            }
+        }
+        assert_eq!(counts, [8691, 59]);
+    }
+
+    #[test]
+    fn conditions_7_16_and_8_of_kind_3() {
+        assert_eq!(limited_with(&[(18, 2)]), "7 at 22: identifier 2 after 2, expected a larger one");
+        assert_eq!(limited_with(&[(24, 3)]), "7 at 24: the kind of event 2 is 3, expected 0 to 2");
+        let expected = "expected no compartments at rank 0";
+        let observer = format!("16 at 6: the observer's level is rank 0 compartments 0 (0x01), {expected}");
+        assert_eq!(limited_with(&[(6, 1)]), observer);
+        let event = format!("16 at 25: the level of event 2 is rank 0 compartments 3 (0x08), {expected}");
+        assert_eq!(limited_with(&[(25, 8)]), event);
+        let eight = "8 at 26: event 1 leads from state 0 to state 4, expected states below 4";
+        assert_eq!(limited_with(&[(26, 0x10)]), eight);
+        let eight = "8 at 89: event 2 leads from state 3 to state 63, expected states below 4";
+        assert_eq!(limited_with(&[(89, 0x80)]), eight);
+    }
+
+    /// Each later change is about a condition that is tested earlier.
+    #[test]
+    fn the_order_of_the_conditions_of_kind_3() {
+        let mut bytes = limited();
+        let content = [(26, 16, 8), (25, 1, 16), (6, 1, 16), (24, 3, 7), (16, 1, 21), (14, 1, 21), (13, 9, 6)];
+        let frame = [(9, 1, 5), (8, 4, 4), (5, 1, 3), (0, 0, 2)];
+        for (byte, value, condition) in content.into_iter().chain(frame) {
+            bytes[byte] = value;
+            assert_eq!(read(&bytes).unwrap_err().condition, condition);
+        }
+    }
+
+    fn comes_back(record: &[u8], length: usize) {
+        assert_eq!(record.len(), length);
+        assert_eq!(write(&read(record).unwrap()), record);
+    }
+
     #[test]
     fn the_extremes() {
-        let smallest = [5, 0, 0, 0, 1, 0, 0, 1, 0, 0, 0];
-        assert_eq!(write(&read(&smallest).unwrap()), smallest);
-        let largest = write(&random::full(64, 32));
-        assert_eq!(largest.len(), 16_586);
-        assert_eq!(write(&read(&largest).unwrap()), largest);
-        let largest = write(&random::full_for(64, 32, 4));
-        assert_eq!(largest.len(), 16_782);
-        assert_eq!(write(&read(&largest).unwrap()), largest);
+        comes_back(&[5, 0, 0, 0, 1, 0, 0, 1, 0, 0, 0], 11);
+        comes_back(&write(&random::full(64, 32)), 16_586);
+        comes_back(&write(&random::full_for(64, 32, 4)), 16_782);
+        comes_back(&[6, 0, 0, 0, 3, 0, 0, 1, 0, 0, 0, 0], 12);
+        comes_back(&write(&random::full_limited(64, 32)), 16_650);
     }
 
     #[test]
@@ -633,9 +801,9 @@ mod tests {
 
     /// Records of the parts with some bytes changed: how many are read, and how many have each condition. There is no
     /// panic, and what is read is written back the same.
-    fn damaged(part: fn(&mut Rng) -> Part) -> (usize, [usize; 21]) {
+    fn damaged(part: fn(&mut Rng) -> Part) -> (usize, [usize; 22]) {
         let mut rng = Rng::new(2);
-        let (mut read_back, mut refused) = (0, [0; 21]);
+        let (mut read_back, mut refused) = (0, [0; 22]);
         for _ in 0..5000 {
             let mut bytes = write(&part(&mut rng));
             random::damage(&mut rng, &mut bytes);
@@ -662,5 +830,13 @@ mod tests {
         let (read_back, refused) = damaged(random::several);
         let least = [1, 2, 3, 4, 5, 20, 6, 7, 16, 8].map(|condition| refused[condition]).into_iter().min();
         assert!(read_back > 100 && least > Some(50), "{read_back} {refused:?}");
+    }
+
+    #[test]
+    fn changed_records_of_kind_3_come_back_or_misfit() {
+        let (read_back, refused) = damaged(random::limited);
+        let least = [1, 2, 3, 4, 5, 6, 21, 7, 16, 8].map(|condition| refused[condition]).into_iter().min();
+        assert!(read_back > 100 && least > Some(100), "{read_back} {refused:?}");
+        assert_eq!(refused[20], 0);
     }
 }

@@ -1,7 +1,7 @@
 //! The line that the proved program `verdict` printed: read, held against the part it should be about, put in words.
 //! Nothing here decides a verdict.
 
-use crate::answers::answer;
+use crate::answers::{answer, has_to_answer};
 use crate::level::Level;
 use crate::part::{Event, Kind, Observer, Part, Table};
 
@@ -86,6 +86,14 @@ fn fits_rule_1(event: &Event, named: &Break) -> Result<(), String> {
     Ok(())
 }
 
+/// What s and u have in common under a rule from 3 to 5, in words: the class, or that of the two in a limited part.
+fn common_word(observer: &Observer, rule: usize) -> &'static str {
+    match (rule, &observer.fine) {
+        (4 | 5, Some(_)) => "fine class",
+        _ => observer.class_word(),
+    }
+}
+
 /// Does the part have what the line of a rule from 2 to 5 names?
 fn fits_step(observer: &Observer, event: &Event, named: &Break) -> Result<(), String> {
     let Break { rule, event: identifier, s, t, u } = *named;
@@ -96,10 +104,10 @@ fn fits_step(observer: &Observer, event: &Event, named: &Break) -> Result<(), St
         return Err("rule 2 names the state 0 as U".to_string());
     }
     if rule == 2 && observer.same_class(s, t) {
-        return Err(format!("states {s} and {t} are in the same class"));
+        return Err(format!("states {s} and {t} are in the same {}", observer.class_word()));
     }
-    if rule > 2 && !observer.same_class(s, u) {
-        return Err(format!("states {s} and {u} are in different classes"));
+    if rule > 2 && !has_to_answer(observer, rule, s, u) {
+        return Err(format!("states {s} and {u} are in different {}es", common_word(observer, rule)));
     }
     Ok(())
 }
@@ -108,7 +116,10 @@ fn fits_step(observer: &Observer, event: &Event, named: &Break) -> Result<(), St
 fn unanswered(part: &Part, observer: &Observer, event: &Event, named: &Break) -> Result<(), String> {
     let Break { rule, event: identifier, t, u, .. } = *named;
     match answer(part, observer, rule, event, [t, u]) {
-        Some(state) => Err(format!("state {u} answers event {identifier} by state {state}, in the class of state {t}")),
+        Some(state) => {
+            let class = observer.class_word();
+            Err(format!("state {u} answers event {identifier} by state {state}, in the {class} of state {t}"))
+        }
         None => Ok(()),
     }
 }
@@ -182,30 +193,47 @@ fn broken_words(table: &Table, observer: &Observer, named: &Break) -> String {
     let s = state_words(table, "s", named.s);
     let t = state_words(table, "t", named.t);
     let u = state_words(table, "u", named.u);
+    let class = observer.class_word();
     match named.rule {
         1 => format!("{it} has no step from {s}; inputs need a step from each state."),
-        2 => format!("{it} leads from {s} to {t}, which is outside the class of s."),
+        2 => format!("{it} leads from {s} to {t}, which is outside the {class} of s."),
         rule => {
             let missing = match rule {
-                3 => "this input leads from u to no state of t's class",
-                4 => "silent steps lead from u to no state of t's class, and u itself is not in it",
-                _ => "silent steps, this output and silent steps lead from u to no state of t's class",
+                3 => format!("this input leads from u to no state of t's {class}"),
+                4 => format!("silent steps lead from u to no state of t's {class}, and u itself is not in it"),
+                _ => format!("silent steps, this output and silent steps lead from u to no state of t's {class}"),
             };
-            format!("{it} leads from {s} to {t}. But {u} is in the class of s, and {missing}.")
+            let common = common_word(observer, rule);
+            format!("{it} leads from {s} to {t}. But {u} is in the {common} of s, and {missing}.")
         }
+    }
+}
+
+/// What a pass says, and of a limited part what it does not say. The limit is counted here: the line has none.
+fn pass_words(table: &Table, observer: &Observer) -> String {
+    if table.part.is_limited() {
+        let limit = observer.limit();
+        let limited = format!("The limit is {limit}: no coarse class has more fine classes than that.");
+        return format!(
+            "The verdict given: pass, as a limited part. {limited} That it hides high inputs is not promised."
+        );
+    }
+    match table.part.has_several_observers() {
+        true => "The verdict given: pass, for each observer.".to_string(),
+        false => "The verdict given: pass.".to_string(),
     }
 }
 
 /// A verdict in words. The line must fit the part, and a break the observer, which is named where there are several.
 pub fn words(table: &Table, observer: &Observer, verdict: &Verdict) -> String {
-    let several = table.part.has_several_observers();
     match verdict {
-        Verdict::Pass if several => "The verdict given: pass, for each observer.".to_string(),
-        Verdict::Pass => "The verdict given: pass.".to_string(),
+        Verdict::Pass => pass_words(table, observer),
         Verdict::Refused(number) => format!("The verdict given: refused {number}."),
         Verdict::Broken(named) => {
-            let level = observer.level.text_and_byte();
-            let whose = if several { format!(" for the observer {level}") } else { String::new() };
+            let whose = match table.part.has_several_observers() {
+                true => format!(" for the observer {}", observer.level.text_and_byte()),
+                false => String::new(),
+            };
             format!("Rule {} is broken{whose}: {}", named.rule, broken_words(table, observer, named))
         }
     }
@@ -350,6 +378,83 @@ event 6 \"turn\" internal rank 2 compartments none
             in_words("rule 5 event 4 from 0 to 2 other 1"),
             format!("Rule 5 is broken: the low output 4 {from} {five}")
         );
+    }
+
+    /// The table as a limited part: b and d have the class of a, and b its fine class too.
+    fn limited() -> Table {
+        let text = TABLE.replace("states a b c", "states a b c d");
+        let text = text.replace("{a b} {c}", "{a b d} {c}\nfine {a b} {c} {d}");
+        reader::read(text.as_bytes()).unwrap()
+    }
+
+    /// Whether a line names a break of the limited part, and in which words.
+    fn limited_words(line: &str) -> Result<String, String> {
+        let (table, given) = (limited(), read(line).unwrap());
+        fits(&table.part, &given)
+            .map(|_| words(&table, &table.part.observers[0], &given))
+            .map_err(|why| why.strip_prefix("the verdict line is not about this part: ").unwrap().to_string())
+    }
+
+    /// Rule 3 asks d, rules 4 and 5 do not.
+    #[test]
+    fn who_is_asked_in_a_limited_part() {
+        assert!(limited_words("rule 3 event 2 from 0 to 2 other 3").is_ok());
+        let apart = Err("states 0 and 3 are in different fine classes".to_string());
+        assert_eq!(limited_words("rule 4 event 3 from 0 to 2 other 3"), apart);
+        assert_eq!(limited_words("rule 4 event 5 from 0 to 2 other 3"), apart);
+        assert_eq!(limited_words("rule 5 event 4 from 0 to 2 other 3"), apart);
+        let apart = Err("states 0 and 2 are in different coarse classes".to_string());
+        assert_eq!(limited_words("rule 3 event 2 from 0 to 2 other 2"), apart);
+    }
+
+    #[test]
+    fn other_lines_about_a_limited_part() {
+        let inside = TABLE.replace("{a b} {c}", "{a b c}\nfine {a} {b} {c}");
+        let table = reader::read(inside.as_bytes()).unwrap();
+        let misfit = |line| fits(&table.part, &read(line).unwrap()).unwrap_err();
+        let two = misfit("rule 2 event 1 from 0 to 2 other 0");
+        assert!(two.ends_with(": states 0 and 2 are in the same coarse class"), "{two}");
+        let five = misfit("rule 5 event 4 from 0 to 2 other 0");
+        assert!(five.ends_with(": state 0 answers event 4 by state 2, in the coarse class of state 2"), "{five}");
+    }
+
+    #[test]
+    fn breaks_of_a_limited_part_in_words() {
+        let two = "Rule 2 is broken: the high input 1 leads from s (state 0, a) to t (state 2, c), \
+                   which is outside the coarse class of s.";
+        assert_eq!(limited_words("rule 2 event 1 from 0 to 2 other 0").unwrap(), two);
+        let from = "leads from s (state 0, a) to t (state 2, c). But u";
+        let three = format!(
+            "Rule 3 is broken: the low input 2 {from} (state 3, d) is in the coarse class of s, and \
+             this input leads from u to no state of t's coarse class."
+        );
+        assert_eq!(limited_words("rule 3 event 2 from 0 to 2 other 3").unwrap(), three);
+        let four = format!(
+            "Rule 4 is broken: the internal event 5 {from} (state 1, b) is in the fine class of s, and \
+             silent steps lead from u to no state of t's coarse class, and u itself is not in it."
+        );
+        assert_eq!(limited_words("rule 4 event 5 from 0 to 2 other 1").unwrap(), four);
+        let five = format!(
+            "Rule 5 is broken: the low output 4 {from} (state 1, b) is in the fine class of s, and \
+             silent steps, this output and silent steps lead from u to no state of t's coarse class."
+        );
+        assert_eq!(limited_words("rule 5 event 4 from 0 to 2 other 1").unwrap(), five);
+    }
+
+    /// The limit is counted off the classes, also where it is 1.
+    #[test]
+    fn a_pass_of_a_limited_part_in_words() {
+        let pass = |limit| {
+            format!(
+                "The verdict given: pass, as a limited part. The limit is {limit}: no coarse class has more fine classes \
+                 than that. That it hides high inputs is not promised."
+            )
+        };
+        assert_eq!(limited_words("pass").unwrap(), pass(2));
+        let mut table = limited();
+        let observer = &mut table.part.observers[0];
+        observer.fine = Some(observer.classes.clone());
+        assert_eq!(words(&table, &table.part.observers[0], &Verdict::Pass), pass(1));
     }
 
     /// Event 3 is silent for the first observer and seen by the others: only there it helps b to answer 4 and 5.

@@ -1,6 +1,6 @@
 //! Writes a part as canonical text: numbers for states, classes by their smallest state, all else ascending.
 
-use crate::part::{states_of, Event, Observer, Part};
+use crate::part::{groups, states_of, Event, Part};
 
 /// Classes that make a longer line stand one to a line.
 const WIDTH: usize = 80;
@@ -15,13 +15,14 @@ pub fn class(states: &[usize]) -> String {
     format!("{{{}}}", joined(states))
 }
 
-fn classes(observer: &Observer) -> String {
-    let groups: Vec<String> = observer.groups().iter().map(|group| class(group)).collect();
-    let line = format!("classes {}\n", groups.join(" "));
+/// The classes of a column behind its keyword.
+fn classes(keyword: &str, column: &[u8]) -> String {
+    let groups: Vec<String> = groups(column).iter().map(|group| class(group)).collect();
+    let line = format!("{keyword} {}\n", groups.join(" "));
     if line.len() <= WIDTH || groups.len() == 1 {
         return line;
     }
-    format!("classes\n  {}\n", groups.join("\n  "))
+    format!("{keyword}\n  {}\n", groups.join("\n  "))
 }
 
 fn event(event: &Event) -> String {
@@ -42,7 +43,8 @@ pub fn write(part: &Part) -> String {
         if i == 0 {
             text.push_str(&format!("states {}\nstart {}\n", part.states, part.start));
         }
-        text.push_str(&classes(observer));
+        text.push_str(&classes("classes", &observer.classes));
+        text.extend(observer.fine.iter().map(|fine| classes("fine", fine)));
     }
     for one in &part.events {
         text.push_str(&event(one));
@@ -106,6 +108,36 @@ event 2 output rank 0 compartments none
         2, 0, 0, 0, 0, 0, 0, 0, // 2 from 1
     ];
 
+    /// A limited part: the input 1 leads to state 1, and only state 0 has the low output 2.
+    const LIMITED_CANONICAL: &str = "\
+part
+observer rank 0 compartments none
+states 2
+start 0
+classes {0 1}
+fine {0} {1}
+event 1 input rank 1 compartments none
+  0 -> 1
+  1 -> 1
+event 2 output rank 0 compartments none
+  0 -> 0
+";
+
+    /// Its record, byte by byte.
+    const LIMITED_RECORD: [u8; 54] = [
+        0x30, 0, 0, 0, // 48 = 4 + 2 * 2 + 4 * 2 + 8 * 2 * 2
+        3, 0, // kind 3
+        0x00, 2, 0, 2, // observer, states, start, events
+        0, 0, // classes
+        0, 1, // fine classes
+        1, 0, 0, 0x40, // input 1
+        2, 0, 1, 0x00, // output 2
+        2, 0, 0, 0, 0, 0, 0, 0, // 1 from 0
+        2, 0, 0, 0, 0, 0, 0, 0, // 1 from 1
+        1, 0, 0, 0, 0, 0, 0, 0, // 2 from 0
+        0, 0, 0, 0, 0, 0, 0, 0, // 2 from 1
+    ];
+
     fn read(text: &str) -> Part {
         reader::read(text.as_bytes()).unwrap().part
     }
@@ -165,6 +197,29 @@ event 2 output rank 0 compartments none
         assert_eq!(bytes[..24], [0x38, 0, 0, 0, 2, 0, 4, 2, 1, 2, 0, 0x41, 0x80, 0xE2, 0, 0, 0, 1, 0, 1, 0, 0, 1, 0]);
     }
 
+    #[test]
+    fn the_text_and_the_record_of_a_limited_part() {
+        assert_eq!(record::write(&read(LIMITED_CANONICAL)), LIMITED_RECORD);
+        assert_eq!(write(&read_record(&LIMITED_RECORD)), LIMITED_CANONICAL);
+        round_trip(&read(LIMITED_CANONICAL));
+        let named = LIMITED_CANONICAL.replace("states 2", "states off on").replace("{0} {1}", "\n {on}\n {off}");
+        assert_eq!(write(&read(&named)), LIMITED_CANONICAL);
+    }
+
+    /// Fine classes that are the classes stay in the text: without them the record is of kind 1.
+    #[test]
+    fn fine_classes_that_are_the_classes() {
+        let equal = LIMITED_CANONICAL.replace("{0} {1}", "{0 1}");
+        assert_eq!(write(&read(&equal)), equal);
+        round_trip(&read(&equal));
+        let mut bytes = LIMITED_RECORD;
+        bytes[13] = 0;
+        assert_eq!(record::write(&read(&equal)), bytes);
+        let plain = equal.replace("fine {0 1}\n", "");
+        assert_eq!(record::write(&read(&plain))[..12], [0x2E, 0, 0, 0, 1, 0, 0, 2, 0, 2, 0, 0]);
+        assert_ne!(read(&plain), read(&equal));
+    }
+
     /// A part with one observer is of kind 1, also where there were more.
     #[test]
     fn one_observer_is_of_kind_1() {
@@ -186,6 +241,9 @@ event 2 output rank 0 compartments none
         let mut part = random::full(64, 0);
         part.observers[0].classes = vec![0; 64];
         round_trip(&part);
+        let part = random::full_limited(20, 0);
+        assert!(write(&part).contains(" 18 19}\nfine\n  {0}\n  {1}\n"));
+        round_trip(&part);
     }
 
     #[test]
@@ -203,7 +261,7 @@ event 2 output rank 0 compartments none
     #[test]
     fn the_shipped_tables_come_back() {
         let tables = files("examples", "table");
-        assert!(tables.len() >= 8);
+        assert!(tables.len() >= 10);
         for path in tables {
             round_trip(&read(&fs::read_to_string(path).unwrap()));
         }
@@ -215,13 +273,14 @@ event 2 output rank 0 compartments none
             for observer_count in 1..=4 {
                 round_trip(&random::full_for(n, m, observer_count));
             }
+            round_trip(&random::full_limited(n, m));
         }
     }
 
     #[test]
     fn random_parts_come_back() {
         let mut rng = Rng::new(5);
-        let mut limits = [0; 10];
+        let mut limits = [0; 13];
         for _ in 0..1500 {
             let part = random::any(&mut rng);
             round_trip(&part);
@@ -229,7 +288,10 @@ event 2 output rank 0 compartments none
             let ends = [n == 1 && m == 0, n == 64, m == 32, n == 64 && m == 32];
             let identifiers = [part.event(0).is_some(), part.event(u16::MAX).is_some()];
             let observers = [1, 2, 3, 4].map(|count| part.observers.len() == count);
-            for (count, came) in limits.iter_mut().zip(ends.into_iter().chain(identifiers).chain(observers)) {
+            let fine = part.observers[0].fine.as_ref();
+            let refined = [fine.is_none(), fine == Some(&part.observers[0].classes), part.observers[0].limit() > 1];
+            let observed = observers.into_iter().chain(refined);
+            for (count, came) in limits.iter_mut().zip(ends.into_iter().chain(identifiers).chain(observed)) {
                 *count += came as usize;
             }
         }

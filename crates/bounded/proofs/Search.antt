@@ -1,16 +1,17 @@
 -- The laws of bounded searches: what an answer tells of each number below the bound, and how a loop that has searched
 -- below i goes on.
-use Prim.Native.Nat.{ℕ, zero, suc, _+_, _*_, _≤_, _<_}
+use Prim.Native.Nat.{ℕ, zero, suc, _+_, _*_, _≤_, _<_, max}
 use mathlib.Core.Path.{_≡_, refl, sym, ap, _∙_, subst}
 use mathlib.Core.Bool.{Bool, true, false, not, _||_, _&&_, cond, or-true, or-false}
 use mathlib.Core.Option.{Option, none, some}
 use mathlib.Core.Logic.{_↔_, _⊎_, inl, inr, ⊎-elim}
-use native.Mathlib.Nat.{eq-or-lt-of-le, le-of-suc-le-suc, not-suc-le-zero, lt-suc-self, le-step, suc-mul}
+use native.Mathlib.Nat.{add-zero, eq-or-lt-of-le, le-of-suc-le-suc, not-suc-le-zero, lt-suc-self, le-step, suc-mul}
 use native.Mathlib.Numerals.{add-one}
+use native.Mathlib.Decide.{decLe}
 use native.Mathlib.Omega.{arith}
 use borrow.Author.Tests.{eq-eqb, ne-eqb}
 use lib.Dec.{T, eqb}
-use Rattle.bounded.specs.Search.{any, all, or-else, when, first, least, count, total}
+use Rattle.bounded.specs.Search.{any, all, or-else, when, first, least, count, total, largest}
 
 -- ---- tests
 
@@ -306,6 +307,11 @@ unfolding count
 count-same zero f g h = refl
 count-same (suc n) f g h = rw (count-same n f g (λ i l. h i (le-step l)), h n (lt-suc-self n))
 
+-- One number more.
+pub count-next : (f : ℕ → Bool) (i : ℕ) → count (i + 1) f ≡ count i f + cond (f i) 1 0
+unfolding count
+count-next f i = rw (add-one i)
+
 pub count-none : (n : ℕ) → count n (λ i. false) ≡ 0
 unfolding count
 count-none zero = refl
@@ -363,6 +369,32 @@ count-some n f t h e =
       count-grows (λ i. false) f n t h refl e (λ i l w. absurd (true-not-false w refl)),
     )
 
+-- Different numbers that pass are no more than those that pass.
+pub count-different : (k n : ℕ) (g : ℕ → ℕ) (f : ℕ → Bool) → ((i : ℕ) → i < k → (g i < n) × (f (g i) ≡ true))
+    → ((i j : ℕ) → i < j → j < k → g i ≡ g j → ⊥) → k ≤ count n f
+count-different zero n g f passing apart = omega arith
+count-different (suc k) n g f passing apart =
+    let (below, e) = passing k (lt-suc-self k) in
+    let others : ℕ → Bool = λ t. f t && not (eqb (g k) t) in
+    let fewer =
+    count-different k n g others
+    (λ i h.
+    let (below, e) = passing i (le-step h) in
+    (below, rw (e, ne-eqb (g k) (g i) (λ q. apart i k h (lt-suc-self k) (sym q)))))
+    (λ i j h l. apart i j h (le-step l)) in
+    omega (
+      arith,
+      count-grows others f n (g k) below (rw (e, eq-eqb (g k) (g k) refl)) e (λ i l w. and-left _ _ w),
+    )
+
+-- How many pass of the first m, and of the n behind them.
+pub count-add : (m n : ℕ) (f : ℕ → Bool) → count (m + n) f ≡ count m f + count n (λ i. f (m + i))
+unfolding count
+count-add m zero f = rw (add-zero m) (sym (add-zero (count m f)))
+count-add m (suc n) f =
+    let whole : m + suc n ≡ suc (m + n) = omega arith in
+    rw (whole, count-add m n f) (omega arith)
+
 -- How many pass one of two tests: those that pass the first, and those that pass the second alone.
 pub count-or : (n : ℕ) (f g : ℕ → Bool) → count n (λ i. f i || g i) ≡ count n f + count n (λ i. g i && not (f i))
 unfolding count
@@ -395,3 +427,46 @@ total-within (suc n) low high f h =
     let (least, most) = total-within n low high f (λ i l. h i (le-step l)) in
     let (p, q) = h n (lt-suc-self n) in
     (rw (suc-mul n low) (omega arith), rw (suc-mul n high) (omega arith))
+
+-- ---- the largest
+
+-- Equal terms have one largest.
+pub largest-same : (n : ℕ) (f g : ℕ → ℕ) → ((i : ℕ) → i < n → f i ≡ g i) → largest n f ≡ largest n g
+unfolding largest
+largest-same zero f g h = refl
+largest-same (suc n) f g h = rw (largest-same n f g (λ i l. h i (le-step l)), h n (lt-suc-self n))
+
+-- One term more.
+pub largest-next : (f : ℕ → ℕ) (i : ℕ) → largest (i + 1) f ≡ max (largest i f) (f i)
+unfolding largest
+largest-next f i = rw (add-one i)
+
+-- No term is larger.
+pub largest-at : (n : ℕ) (f : ℕ → ℕ) (i : ℕ) → i < n → f i ≤ largest n f
+unfolding largest
+largest-at zero f i h = absurd (not-suc-le-zero h)
+largest-at (suc n) f i h =
+    ⊎-elim
+    (λ e. omega (arith, ap f e))
+    (λ l. omega (arith, largest-at n f i l))
+    (last-or-below h)
+
+-- No more than a bound on each term.
+pub largest-le : (n k : ℕ) (f : ℕ → ℕ) → ((i : ℕ) → i < n → f i ≤ k) → largest n f ≤ k
+unfolding largest
+largest-le zero k f h = omega arith
+largest-le (suc n) k f h = omega (arith, largest-le n k f (λ i l. h i (le-step l)), h n (lt-suc-self n))
+
+-- Some term is as large.
+pub largest-reached : (n : ℕ) (f : ℕ → ℕ) → 1 ≤ n → (i : ℕ) × (i < n) × (f i ≡ largest n f)
+unfolding largest
+largest-reached zero f h = absurd (omega arith)
+largest-reached (suc n) f h =
+    elim (decLe (largest n f) (f n)) [
+      | yes l ↦ (n, lt-suc-self n, omega arith)
+      | no l ↦
+          elim (decLe 1 n) [
+            | yes k ↦ let (i, below, e) = largest-reached n f k in (i, le-step below, omega arith)
+            | no k ↦ let z : n ≡ 0 = omega arith in absurd (l (omega (arith, ap (λ (k : ℕ). largest k f) z)))
+          ]
+    ]

@@ -1,6 +1,6 @@
 -- Searches over the numbers below a bound, and what is collected from them. They compute, try 0, 1, 2, .. in that order, and a loop that
 -- has tried the numbers below i has computed exactly the search below i.
-use Prim.Native.Nat.{ℕ, zero, suc, _+_, _<_}
+use Prim.Native.Nat.{ℕ, zero, suc, _+_, _<_, max}
 use mathlib.Core.Bool.{Bool, true, false, _||_, _&&_, cond}
 use mathlib.Core.List.{List, [], _∷_, _++_}
 use mathlib.Core.Option.{Option, none, some}
@@ -47,6 +47,11 @@ count (suc n) test = count n test + cond (test n) 1 0
 unfoldable pub total : ℕ → (ℕ → ℕ) → ℕ
 total zero size = 0
 total (suc n) size = total n size + size n
+
+-- The largest over the numbers below n; 0 where there are none.
+unfoldable pub largest : ℕ → (ℕ → ℕ) → ℕ
+largest zero size = 0
+largest (suc n) size = max (largest n size) (size n)
 
 -- chunk 0, chunk 1, .., chunk (n - 1), one behind the other.
 unfoldable pub each : ℕ → (ℕ → List ℕ) → List ℕ

@@ -1,5 +1,5 @@
 -- The machine of the joined record is the hookup of the two machines, with the product of their partitions.
-use Prim.Native.Nat.{ℕ, _*_, _/_, _%_, _<_}
+use Prim.Native.Nat.{ℕ, _+_, _*_, _/_, _%_, _<_}
 use mathlib.Core.Path.{_≡_, refl, sym, ap, _∙_, subst}
 use mathlib.Core.HLevel.{Σ-prop-path}
 use mathlib.Core.Bool.{_&&_}
@@ -12,39 +12,40 @@ use lib.Dec.{T}
 use lib.ListN.{length, getD}
 use Rattle.machine.specs.Machine.{Event, absent, event}
 use Rattle.machine.specs.Hookup.{Combines, Move, steps, stays, IsHookup, IsProduct}
-use Rattle.words.specs.LittleEndian.{Bytes}
+use Rattle.words.specs.LittleEndian.{Bytes, byte}
 use Rattle.words.specs.Sets.{bit}
 use Rattle.words.specs.Pairs.{pair}
 use Rattle.words.proofs.Sets.{bit-single}
-use Rattle.words.proofs.Pairs.{pair-lt, pair-first, pair-second, pair-of, first-lt, second-lt, bit-product-pair}
+use Rattle.words.proofs.Pairs.{pair-lt, pair-same, pair-first, pair-second, pair-of, first-lt, second-lt, bit-product-pair}
 use Rattle.level.specs.Level.{low}
-use Rattle.part.specs.Record.{kind, lead, form-of, observers, observer, states, start, events, column, class, identifier, event-kind, level, row}
+use Rattle.partition.specs.Classes as classes-of
+use Rattle.partition.proofs.Limits as limits
+use Rattle.part.specs.declared.format.Form.{Form}
+use Rattle.part.specs.Format.{form}
+use Rattle.part.specs.Record.{lead, form-of, columns, observers, observer, states, start, events, column, fine-column, class, fine}
+use Rattle.part.specs.Record.{identifier, event-kind, level, row}
 use Rattle.screening.specs.Rejections.{Accepted}
 use Rattle.part.specs.Frame.{fields-of}
 use Rattle.screening.specs.Machine.{State, machine, observation}
 use Rattle.part.specs.Events.{place, event-of, Leads}
-use Rattle.screening.proofs.Ranges.{ranges, class-counted}
+use Rattle.screening.proofs.Numbered.{class-counted}
+use Rattle.screening.proofs.Ranges.{ranges, frame}
 use Rattle.screening.proofs.Places.{places}
 use Rattle.part.proofs.Places.{event-none, event-at}
-use Rattle.part.proofs.Fields.{own-columns}
-use Rattle.screening.proofs.LayoutLaws.{Agree, level-in, level-read, level-agree}
+use Rattle.part.proofs.Fields.{own-column, own-fine-column}
+use Rattle.screening.proofs.LayoutLaws.{Agree, level-read, level-agree}
 use Rattle.screening.proofs.ReadBack.{read-back}
 use Rattle.screening.proofs.Proper.{proper-fits}
 use Rattle.bounded.proofs.Truth.{eqb-iff, and-iff}
+use Rattle.restrictive.specs.Verdict.{limit}
 use Rattle.composite.specs.Meeting.{kind-byte, level-byte}
-use Rattle.composite.specs.Joined.{merged, classes, after, joined-event, joined-row, joined-fields, joined}
-use Rattle.composite.specs.Theorems.{Joins, JoinedHookup}
+use Rattle.composite.specs.Joined.{merged, joined-kind, column-in, classes, after, joined-event, joined-row, joined-fields, joined}
+use Rattle.composite.specs.Theorems.{Joins, JoinedHookup, LimitProduct}
 use Rattle.composite.proofs.MergeLaws.{merged-at, merged-has}
 use Rattle.composite.proofs.Meetings.{kind-back, level-back, opposite-clear, combined-combines, combined-absent}
+use Rattle.composite.proofs.JoinedColumns.{class-in, fine-in, joined-form, joined-level}
 use Rattle.composite.proofs.JoinedClasses.{joined-class-pair}
-use Rattle.composite.proofs.JoinedProper.{after-none, after-some, joined-proper, joined-accepted}
-
--- Pairs with one number are equal.
-pair-same : (n x x' y y' : ℕ) → y < n → y' < n → pair n x y ≡ pair n x' y' → (x ≡ x') × (y ≡ y')
-pair-same n x x' y y' h k e = (
-  sym (pair-first n x y h) ∙ ap (λ (s : ℕ). s / n) e ∙ pair-first n x' y' k,
-  sym (pair-second n x y h) ∙ ap (λ (s : ℕ). s % n) e ∙ pair-second n x' y' k,
-)
+use Rattle.composite.proofs.JoinedProper.{after-none, after-some, pair-class, joined-proper, joined-accepted}
 
 -- States with one number are equal.
 same-state : (b : List ℕ) {s t : State b} → s .0 ≡ t .0 → s ≡ t
@@ -89,19 +90,20 @@ module _ (a b : List ℕ) (h : Bytes a) (k : Bytes b) (p : Accepted a) (q : Acce
   unfolding joined-fields
   joined-states = joined-back .tables .counts
 
-  joined-form : form-of (joined a b) ≡ form-of a
+  joined-form-of : form-of (joined a b) ≡ form (joined-kind a b) (lead a)
   unfolding joined-fields
-  joined-form = let k = joined-back .kinds in let l = joined-back .leads in cc
+  joined-form-of = let k = joined-back .kinds in let l = joined-back .leads in cc
 
   pub joined-observers : observers (joined a b) ≡ observers a
-  joined-observers = let f = joined-form in cc
+  joined-observers = let f = joined-form-of in let w = joined-form a b p q (j .joinable .as-many) .observers-of in cc
 
   pub joined-observer : (o : ℕ) → o < observers a → observer (joined a b) o ≡ observer a o
-  unfolding joined-fields level-in
+  unfolding joined-fields
   joined-observer o l =
       level-read (joined a b) o (rw joined-observers l)
-      ∙ level-agree (fields-of (joined a b)) (joined-fields a b) joined-back o l
-      ∙ sym (level-read a o l)
+      ∙ level-agree (fields-of (joined a b)) (joined-fields a b) joined-back o
+      (rw (joined-form a b p q (j .joinable .as-many) .observers-of) l)
+      ∙ joined-level a b p q (j .joinable .as-many) o l
 
   joined-start : start (joined a b) ≡ pair (states b) (start a) (start b)
   unfolding joined-fields
@@ -111,13 +113,35 @@ module _ (a b : List ℕ) (h : Bytes a) (k : Bytes b) (p : Accepted a) (q : Acce
   unfolding joined-fields
   joined-events = joined-back .tables .event-counts
 
+  -- in a column, the class of a pair
+  joined-class-in : (i x y : ℕ) → i < columns (joined a b) → x < states a → y < states b
+      → class (joined a b) i (pair (states b) x y)
+      ≡ pair (classes b i) (byte (column-in a i) x) (byte (column-in b i) y)
+  unfolding joined-fields
+  joined-class-in i x y h l m =
+      joined-back .classes i (pair (states b) x y) (subst (λ (f : Form). i < f .columns) joined-form-of h)
+      (pair-lt (states a) (states b) x y l m)
+      ∙ joined-class-pair a b i x y m
+
   pub joined-class : (o x y : ℕ) → o < observers a → x < states a → y < states b
       → class (joined a b) o (pair (states b) x y) ≡ pair (classes b o) (class a o x) (class b o y)
-  unfolding joined-fields
   joined-class o x y h l m =
-      joined-back .classes o (pair (states b) x y) (omega (arith, own-columns a))
-      (pair-lt (states a) (states b) x y l m)
-      ∙ joined-class-pair a b o x y m
+      joined-class-in o x y (own-column (joined a b) o (rw joined-observers h)) l m
+      ∙ rw (class-in a o h, class-in b o (omega (arith, j .joinable .as-many))) refl
+
+  -- where the fine column of an observer stands
+  abbrev pub fine-place : ℕ → ℕ
+  fine-place o = form (joined-kind a b) (lead a) .finer + o
+
+  pub joined-fine : (o x y : ℕ) → o < observers a → x < states a → y < states b
+      → fine (joined a b) o (pair (states b) x y) ≡ pair (classes b (fine-place o)) (fine a o x) (fine b o y)
+  joined-fine o x y h l m =
+      let (in-a, in-b) = fine-in a b p q (j .joinable .as-many) o h in
+      ap (λ (f : Form). class (joined a b) (f .finer + o) (pair (states b) x y)) joined-form-of
+      ∙ joined-class-in (fine-place o) x y
+      (subst (λ (f : Form). f .finer + o < columns (joined a b)) joined-form-of
+      (own-fine-column (joined a b) o (rw joined-observers h))) l m
+      ∙ rw (in-a, in-b) refl
 
   -- ---- its events
 
@@ -230,21 +254,56 @@ module _ (a b : List ℕ) (h : Bytes a) (k : Bytes b) (p : Accepted a) (q : Acce
 
   partition : (o : ℕ) → o < observers (joined a b)
       → IsProduct (observation a o) (observation b o) (observation (joined a b) o) pairs
-  unfolding classes
   partition o listed = let l : o < observers a = rw joined-observers at listed in record {
     left-low = ap low (sym (joined-observer o l));
     right-low = ap low (sym (j .joinable .levels o l) ∙ sym (joined-observer o l));
     classes = λ s s' t t'.
-        let here = joined-class o (s .0) (t .0) l (s .1) (t .1) in
-        let there = joined-class o (s' .0) (t' .0) l (s' .1) (t' .1) in (
-          λ e.
-              pair-same (classes b o) (class a o (s .0)) (class a o (s' .0)) (class b o (t .0)) (class b o (t' .0))
-              (class-counted (column b o) (t .0) (states b) (t .1))
-              (class-counted (column b o) (t' .0) (states b) (t' .1))
-              (sym here ∙ e ∙ there),
-          λ w. here ∙ rw (w .0, w .1) (sym there),
-        );
+        alike (classes b o) (s .0) (s' .0) (t .0) (t' .0) (pair-class a b o (s .0) (s' .0) (t .0) (t' .0) (t .1) (t' .1))
+        (class-in a o l) (class-in b o (omega (arith, j .joinable .as-many)))
+        (joined-class o (s .0) (t .0) l (s .1) (t .1)) (joined-class o (s' .0) (t' .0) l (s' .1) (t' .1));
+    fine-classes = λ s s' t t'.
+        let (in-a, in-b) = fine-in a b p q (j .joinable .as-many) o l in
+        alike (classes b (fine-place o)) (s .0) (s' .0) (t .0) (t' .0) (pair-class a b (fine-place o) (s .0) (s' .0) (t .0) (t' .0) (t .1) (t' .1)) in-a in-b
+        (joined-fine o (s .0) (t .0) l (s .1) (t .1)) (joined-fine o (s' .0) (t' .0) l (s' .1) (t' .1));
   }
+    where
+      alike : (k x x' y y' : ℕ) {c c' : ℕ} {u v u' v' : List ℕ}
+          → (pair k (byte u x) (byte v y) ≡ pair k (byte u x') (byte v y'))
+          ↔ ((byte u x ≡ byte u x') × (byte v y ≡ byte v y'))
+          → u ≡ u' → v ≡ v'
+          → c ≡ pair k (byte u' x) (byte v' y) → c' ≡ pair k (byte u' x') (byte v' y')
+          → (c ≡ c') ↔ ((byte u' x ≡ byte u' x') × (byte v' y ≡ byte v' y'))
+      alike k x x' y y' w e f here there = rw (here, there, ← e, ← f) w
 
 pub joined-hookup : JoinedHookup
 joined-hookup a b h k p q j r = (pairs a b h k p q j, λ s t. refl, hookup a b h k p q j r, partition a b h k p q j)
+
+-- ---- its limit
+
+-- The classes of a column are below their number.
+counted-in : (b : List ℕ) (i t : ℕ) → t < states b → byte (column-in b i) t < classes b i
+unfolding classes
+counted-in b i t l = class-counted (column-in b i) t (states b) l
+
+pub limit-product : LimitProduct
+unfolding limit
+limit-product a b h k p q j =
+    let some = frame a p .some-observer in
+    let n = states b in
+    let one = ranges b q .one-state in
+    let place = fine-place a b h k p q j 0 in
+    let (in-a, in-b) = fine-in a b p q (j .joinable .as-many) 0 some in
+    ap (λ (m : ℕ). classes-of.limit m (byte (column (joined a b) 0)) (byte (fine-column (joined a b) 0)))
+    (joined-states a b h k p q j)
+    ∙ limits.limit-same (states a * n) _ (λ s. pair (classes b 0) (class a 0 (s / n)) (class b 0 (s % n))) _
+    (λ s. pair (classes b place) (fine a 0 (s / n)) (fine b 0 (s % n)))
+    (λ s l.
+    ap (class (joined a b) 0) (sym (pair-of n s))
+    ∙ joined-class a b h k p q j 0 (s / n) (s % n) some (first-lt (states a) n s l) (second-lt n s one))
+    (λ s l.
+    ap (fine (joined a b) 0) (sym (pair-of n s))
+    ∙ joined-fine a b h k p q j 0 (s / n) (s % n) some (first-lt (states a) n s l) (second-lt n s one))
+    ∙ limits.limit-product (states a) n (classes b 0) (classes b place) (class a 0) (fine a 0) (class b 0) (fine b 0)
+    (ranges a p .one-state) one
+    (λ t l. rw (← class-in b 0 (omega (arith, j .joinable .as-many))) (counted-in b 0 t l))
+    (λ t l. rw (← in-b) (counted-in b place t l))

@@ -1,6 +1,7 @@
 pub mod MergeLaws
 pub mod Meetings
 pub mod Joinable
+pub mod JoinedColumns
 pub mod JoinedClasses
 pub mod JoinedProper
 pub mod JoinedMachine

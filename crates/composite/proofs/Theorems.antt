@@ -1,6 +1,7 @@
 -- The hookup theorem over bytes.
 use native.Mathlib.Omega.{arith}
 use Rattle.machine.proofs.Hookup.{hookup-restrictive}
+use Rattle.screening.proofs.Ranges.{observations-refined}
 use Rattle.restrictive.proofs.Theorems.{passes-exactly}
 use Rattle.composite.specs.Joined.{joined}
 use Rattle.composite.specs.Theorems.{JoinedPasses}
@@ -19,6 +20,7 @@ joined-passes a b h k u v none-there =
       r,
       λ o l.
           let same = joined-observers a b h k p q j in
-          hookup-restrictive _ _ _ _ _ _ _ _ _ pairs hookup (partition o l) (R o (omega arith))
-          (S o (omega (arith, j .joinable .as-many))),
+          hookup-restrictive _ _ _ _ _ _ _ _ _ pairs hookup (partition o l)
+          (observations-refined a p o (omega arith)) (observations-refined b q o (omega (arith, j .joinable .as-many)))
+          (R o (omega arith)) (S o (omega (arith, j .joinable .as-many))),
     )

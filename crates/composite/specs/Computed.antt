@@ -14,12 +14,12 @@ use Rattle.part.specs.Events.{kind-of, at-place, place, event-of}
 use Rattle.restrictive.specs.Judged.{judged, same}
 use Rattle.composite.specs.Merge.{beside, merge}
 use Rattle.composite.specs.Meeting.{meets, clashes, combined, kind-byte, level-byte}
-use Rattle.composite.specs.Joined.{identifiers, merged, classes, after, joined-event, joined-row, joined-fields, joined}
+use Rattle.composite.specs.Joined.{identifiers, merged, joined-kind, column-in, classes, after, joined-event, joined-row, joined-fields, joined}
 use Rattle.composite.specs.Joining.{Obstacle, refusal, clash, levels-differ, observers-differ, clash-at, first-clash, too-large, obstacle, Side, first-record, second-record, Joining, length-is, unfit, stopped, unless-unfit, into, unless-stopped, joining}
 
 -- The joined record, computed.
 unfoldable pub hooked : List ℕ → List ℕ → List ℕ
-unfolding joined joined-fields joined-row joined-event combined kind-byte level-byte after classes merged identifiers merge beside layout body product pair mask bit single place at-place event-of kind-of first or-else form kind lead listed-level observer states start events column classes-below entry-at identifier event-kind level row-at row number digits each
+unfolding joined joined-fields joined-kind column-in joined-row joined-event combined kind-byte level-byte after classes merged identifiers merge beside layout body product pair mask bit single place at-place event-of kind-of first or-else form kind lead listed-level observer states start events column classes-below entry-at identifier event-kind level row-at row number digits each
 hooked a b = joined a b
 
 -- The answer, computed.

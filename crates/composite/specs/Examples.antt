@@ -1,15 +1,15 @@
 -- Records that tell the definitions of Join from their wrong readings: the numbering of states and classes, the order of the merged entries,
--- a shared event that moves both parts, lists of observers, and the order of the answers.
+-- a shared event that moves both parts, lists of observers, fine columns and limits, and the order of the answers.
 use Prim.Native.Nat.{ℕ, _+_, _*_}
 use mathlib.Core.Bool.{Bool, true, _&&_}
 use mathlib.Core.List.{List, [], _∷_, _++_}
-use lib.Dec.{T}
+use lib.Dec.{T, eqb}
 use lib.ListN.{length, set, take, replicate}
 use Rattle.words.specs.LittleEndian.{digits}
 use Rattle.words.specs.Laid.{over}
 use Rattle.part.specs.Samples.{P, Q, Z, resetting}
 use Rattle.restrictive.specs.Verdict.{refused}
-use Rattle.restrictive.specs.Judged.{broken-at}
+use Rattle.restrictive.specs.Judged.{told, broken-at}
 use Rattle.composite.specs.Joining.{refusal, clash, first-record, second-record, Joining, length-is, unfit, stopped, buffer-after}
 use Rattle.composite.specs.Computed.{hooked, answered, same-bytes, same-answer}
 
@@ -64,17 +64,57 @@ two-right = listing (0x00 ∷ 0x40 ∷ []) 2 (0 ∷ 0 ∷ 0 ∷ 1 ∷ [])
 abbrev two-joined : List ℕ
 two-joined = listing (0x00 ∷ 0x40 ∷ []) 4 (0 ∷ 0 ∷ 1 ∷ 1 ∷ 0 ∷ 1 ∷ 0 ∷ 1 ∷ [])
 
+-- A record of kind 3 without events, start 0, with these classes and fine classes.
+unfoldable finely : List ℕ → List ℕ → List ℕ
+finely classes fine =
+    digits 4 (4 + length classes + length fine) ++ 3 ∷ 0 ∷ 0 ∷ length classes ∷ 0 ∷ 0 ∷ [] ++ classes ++ fine
+
+-- A limited part, with two fine classes in its second class, and a part of kind 1, whose classes stand for its fine ones. The column of
+-- classes goes by B's number of classes and the fine one by its number of fine classes, 3 and not 2 in the second join. Zeros for the fine
+-- column of kind 1 would give 0 0 1 1 2 2 in the first.
+abbrev split : List ℕ
+split = finely (0 ∷ 1 ∷ 1 ∷ []) (0 ∷ 1 ∷ 2 ∷ [])
+
+abbrev plain : List ℕ
+plain = sample 0 (0 ∷ 1 ∷ []) 0 [] []
+
+abbrev split-plain : List ℕ
+split-plain = finely (0 ∷ 1 ∷ 2 ∷ 3 ∷ 2 ∷ 3 ∷ []) (0 ∷ 1 ∷ 2 ∷ 3 ∷ 4 ∷ 5 ∷ [])
+
+abbrev plain-split : List ℕ
+plain-split = finely (0 ∷ 1 ∷ 1 ∷ 2 ∷ 3 ∷ 3 ∷ []) (0 ∷ 1 ∷ 2 ∷ 3 ∷ 4 ∷ 5 ∷ [])
+
+-- Two limited parts: the limit of the joined part is 4, the product of the limits; the classes of each are 1, so that their product is no limit.
+abbrev pair-up : List ℕ
+pair-up = finely (0 ∷ 0 ∷ []) (0 ∷ 1 ∷ [])
+
+abbrev paired : List ℕ
+paired = finely (0 ∷ 0 ∷ 0 ∷ 0 ∷ []) (0 ∷ 1 ∷ 2 ∷ 3 ∷ [])
+
+limits-so : Bool
+unfolding told hooked finely sample
+limits-so =
+    eqb (told (hooked pair-up pair-up)) 4 && eqb (told (hooked split plain)) 2 && eqb (told (hooked plain split)) 2
+    && eqb (told (hooked plain plain)) 1 && eqb (told (hooked split pair-up)) 4
+
+limits-multiply : T limits-so
+unfolding limits-so
+limits-multiply = tt
+
 -- One state, for observers of these levels.
 abbrev still : List ℕ → List ℕ
 still levels = listing levels 1 (replicate (length levels) 0)
 
 bytes-so : Bool
-unfolding hooked sample listing
+unfolding hooked sample listing finely
 bytes-so =
     same-bytes (hooked toggles wanders) side-by-side
     && same-bytes (hooked sender receiver) together
     && same-bytes (hooked Z sender) sender
     && same-bytes (hooked two-left two-right) two-joined
+    && same-bytes (hooked split plain) split-plain
+    && same-bytes (hooked plain split) plain-split
+    && same-bytes (hooked pair-up pair-up) paired
 
 bytes-as-written : T bytes-so
 unfolding bytes-so
@@ -91,7 +131,7 @@ abbrev line : List ℕ → List ℕ → ℕ → Joining → Line
 line a b room answer = record { a = a; b = b; room = room; answer = answer }
 
 all-answered : List Line → Bool
-unfolding answered sample listing
+unfolding answered sample listing finely
 all-answered [] = true
 all-answered (l ∷ ls) = same-answer (answered (l .a) (l .b) (l .room)) (l .answer) && all-answered ls
 
@@ -104,7 +144,7 @@ table =
     ∷ line P (set P 11 1) 0 (unfit second-record (broken-at 2 1 0 1 0))
     ∷ line (set P 11 1) (take 5 P) 0 (unfit first-record (broken-at 2 1 0 1 0))
     ∷ line (take 5 P) (set P 11 1) 0 (unfit first-record (refused 1))
-    ∷ line P (set Q 4 3) 0 (unfit second-record (refused 3))
+    ∷ line P (set Q 4 4) 0 (unfit second-record (refused 3))
     ∷ line P (set Q 14 0x01) 0 (unfit second-record (refused 16))
     -- 9 before 10: Q for another observer, with an input in the place of P's event 1
     ∷ line P (set Q 6 0x40) 52 (stopped (refusal 9))
@@ -117,6 +157,14 @@ table =
     ∷ line (still (0x00 ∷ 0x40 ∷ [])) (still (0x00 ∷ 0x80 ∷ [])) 99 (stopped (refusal 9))
     ∷ line (still (0x00 ∷ 0x40 ∷ [])) (still (0x00 ∷ 0x40 ∷ [])) 14 (length-is 14)
     ∷ line two-left two-right 20 (length-is 20)
+    -- a limited part has one observer: it joins with kinds 1 and 3 for the same one, and not with kind 2
+    ∷ line split plain 22 (length-is 22)
+    ∷ line plain split 22 (length-is 22)
+    ∷ line split split 28 (length-is 28)
+    ∷ line split (set plain 6 0x40) 99 (stopped (refusal 9))
+    ∷ line split (still (0x00 ∷ 0x40 ∷ [])) 99 (stopped (refusal 9))
+    ∷ line (still (0x00 ∷ 0x40 ∷ [])) split 99 (stopped (refusal 9))
+    ∷ line plain (finely (0 ∷ 0 ∷ []) (0 ∷ 2 ∷ [])) 99 (unfit second-record (refused 21))
     -- 10: input with input; output with input at another level
     ∷ line P (set Q 11 1) 52 (stopped (clash 1))
     ∷ line P (set Q 14 0x40) 52 (stopped (clash 2))

@@ -11,7 +11,7 @@ use Rattle.bounded.specs.Search.{each}
 use Rattle.words.specs.Laid.{over}
 use Rattle.words.specs.LittleEndian.{digits, as-words}
 use Rattle.words.proofs.LittleEndian.{length-digits, length-each}
-use Rattle.restrictive.specs.Verdict.{Violation, Verdict, pass, refused, breaks, verdict, taken}
+use Rattle.restrictive.specs.Verdict.{Violation, Verdict, pass, refused, breaks, verdict, taken, told-limit}
 use Rattle.explain.specs.Explanation.{numbers, explanation, no-room, explained, buffer-after}
 
 abbrev bytes : List ℕ → List ℕ
@@ -28,7 +28,7 @@ told b out xs e f a w =
     (a ∙ rw (size, e) refl, w ∙ rw (size, f) refl)
 
 -- The numbers of a break and of a pass; a refusal has none.
-of-verdict : (b : List ℕ) {v : Verdict} → verdict b ≡ v → explanation b ≡ as-words (numbers v (taken b))
+of-verdict : (b : List ℕ) {v : Verdict} → verdict b ≡ v → explanation b ≡ as-words (numbers v (taken b) (told-limit b))
 unfolding explanation
 of-verdict b e = rw e
 
@@ -37,10 +37,10 @@ pub of-break : (b : List ℕ) {v : Violation} {k l : ℕ} → verdict b ≡ brea
 unfolding numbers as-words each
 of-break b e p q = of-verdict b e ∙ rw (← p, ← q) refl
 
-pub of-pass : (b : List ℕ) {k : ℕ} → verdict b ≡ pass → k ≡ taken b
-    → explanation b ≡ bytes (0 ∷ 0 ∷ 0 ∷ 0 ∷ 0 ∷ k ∷ 0 ∷ 1 ∷ [])
+pub of-pass : (b : List ℕ) {k m : ℕ} → verdict b ≡ pass → k ≡ taken b → m ≡ told-limit b
+    → explanation b ≡ bytes (0 ∷ 0 ∷ 0 ∷ 0 ∷ 0 ∷ k ∷ 0 ∷ m ∷ [])
 unfolding numbers as-words each
-of-pass b e p = of-verdict b e ∙ rw (← p) refl
+of-pass b e p q = of-verdict b e ∙ rw (← p, ← q) refl
 
 pub told-refused : (b out : List ℕ) {k : ℕ} {answer : Verdict} → verdict b ≡ refused k → answer ≡ refused k
     → (answer ≡ explained b (length out)) × (out ≡ buffer-after b out)

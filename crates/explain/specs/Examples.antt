@@ -1,4 +1,4 @@
--- What the call answers and writes, on records of document 01 and on one with two observers.
+-- What the call answers and writes, on records of document 01, on one with two observers and on a limited part.
 use Prim.Native.Nat.{ℕ}
 use mathlib.Core.Path.{_≡_, refl}
 use mathlib.Core.List.{List, [], _∷_, _++_}
@@ -8,12 +8,12 @@ use Rattle.words.specs.Laid.{over}
 use Rattle.words.specs.LittleEndian.{digits, as-words}
 use Rattle.part.specs.Samples.{P, Z, T, two-observers}
 use Rattle.restrictive.specs.Verdict.{Verdict, refused}
-use Rattle.restrictive.specs.Judged.{judged, counted, broken-at}
+use Rattle.restrictive.specs.Judged.{judged, counted, told, broken-at}
 use Rattle.explain.specs.Explanation.{numbers, explanation, no-room, explained, buffer-after}
 
 -- The explanation, the answer and the buffer afterwards, as they compute.
 written : List ℕ → List ℕ
-unfolding judged counted explanation numbers as-words each digits
+unfolding judged counted told explanation numbers as-words each digits
 written b = explanation b
 
 answered : List ℕ → ℕ → Verdict
@@ -42,6 +42,14 @@ second-concerned = refl
 a-pass : written P ≡ as-words (0 ∷ 0 ∷ 0 ∷ 0 ∷ 0 ∷ 2 ∷ 0 ∷ 1 ∷ [])
 unfolding written
 a-pass = refl
+
+-- A limited part without events: two classes, with one fine class in the first and two in the second. The limit is 2, and not the 3 states
+-- that were taken up.
+a-limited-pass :
+    written (10 ∷ 0 ∷ 0 ∷ 0 ∷ 3 ∷ 0 ∷ 0 ∷ 3 ∷ 0 ∷ 0 ∷ 0 ∷ 1 ∷ 1 ∷ 0 ∷ 1 ∷ 2 ∷ [])
+    ≡ as-words (0 ∷ 0 ∷ 0 ∷ 0 ∷ 0 ∷ 3 ∷ 0 ∷ 2 ∷ [])
+unfolding written
+a-limited-pass = refl
 
 -- 64 bytes are enough, and one less is not, where there is something to explain.
 enough : answered (leaking 0) 64 ≡ broken-at 4 1 0 2 1

@@ -1,4 +1,4 @@
--- The verdict on a part in numbers, and what the call that writes them answers (requests f and k).
+-- The verdict on a part in numbers, and what the call that writes them answers (requests f, k and l).
 use Prim.Native.Nat.{ℕ}
 use mathlib.Core.Bool.{Bool, cond}
 use mathlib.Core.List.{List, [], _∷_}
@@ -6,18 +6,18 @@ use lib.Dec.{ltb}
 use lib.ListN.{length}
 use Rattle.words.specs.Laid.{over}
 use Rattle.words.specs.LittleEndian.{as-words}
-use Rattle.restrictive.specs.Verdict.{Verdict, pass, refused, breaks, verdict, taken}
+use Rattle.restrictive.specs.Verdict.{Verdict, pass, refused, breaks, verdict, taken, told-limit}
 
 -- The eight numbers of a verdict. A break: rule, event, s, t, u; how many states were taken up; the level of the observer concerned; 0. A
--- pass: five zeros; how many were taken up; 0; 1. A refusal has none.
-unfoldable pub numbers : Verdict → ℕ → List ℕ
-numbers pass taken = 0 ∷ 0 ∷ 0 ∷ 0 ∷ 0 ∷ taken ∷ 0 ∷ 1 ∷ []
-numbers (refused k) taken = []
-numbers (breaks v) taken = v .rule ∷ v .event ∷ v .s ∷ v .t ∷ v .u ∷ taken ∷ v .level ∷ 0 ∷ []
+-- pass: five zeros; how many were taken up; 0; the limit. A refusal has none.
+unfoldable pub numbers : Verdict → ℕ → ℕ → List ℕ
+numbers pass taken limit = 0 ∷ 0 ∷ 0 ∷ 0 ∷ 0 ∷ taken ∷ 0 ∷ limit ∷ []
+numbers (refused k) taken limit = []
+numbers (breaks v) taken limit = v .rule ∷ v .event ∷ v .s ∷ v .t ∷ v .u ∷ taken ∷ v .level ∷ 0 ∷ []
 
 -- What the call writes: eight bytes for each.
 unfoldable pub explanation : List ℕ → List ℕ
-explanation b = as-words (numbers (verdict b) (taken b))
+explanation b = as-words (numbers (verdict b) (taken b) (told-limit b))
 
 -- It does not fit into a buffer of so many bytes.
 unfoldable pub no-room : List ℕ → ℕ → Bool

@@ -1,4 +1,4 @@
-// The call: the verdict on a record in numbers (requests f and k).
+// The call: the verdict on a record in numbers (requests f, k and l).
 ghost use mathlib.Core.Path.{_≡_};
 ghost use mathlib.Core.Bool.{cond};
 ghost use lib.Dec.{ltb};
@@ -37,6 +37,7 @@ pub fn explain(bytes: &[u8], out: &mut [u8]) -> Explaining
 {
     let report = check(bytes);
     let taken = report.taken as u64;
+    let limit = report.limit as u64;
     let verdict = report.verdict;
     match verdict {
         Verdict::Refused(_) => Explaining::Told(verdict),
@@ -55,7 +56,7 @@ pub fn explain(bytes: &[u8], out: &mut [u8]) -> Explaining
             tell(out, verdict, &numbers)
         }
         Verdict::Pass => {
-            let numbers = [0, 0, 0, 0, 0, taken, 0, 1];
+            let numbers = [0, 0, 0, 0, 0, taken, 0, limit];
             tell(out, verdict, &numbers)
         }
     }

@@ -52,13 +52,14 @@ silent-still not-seen h = refl
 -- ---- machines
 
 -- M' is M in the earlier reading, with a relation of their states: each state of M has one of M' that is related to it,
--- related states have the same class, and the steps from them go together.
+-- related states have the same classes, and the steps from them go together.
 pub record IsEarlier {S S' : Type 0} (M : Machine S) (O : Observation S) (M' : Machine S') (O' : Observation S')
     (R : S → S' → Type 0) : Type 0 where
   pub events : (e : ℕ) → M' .events e ≡ as-output (M .events e)
   pub lows : O' .low ≡ O .low
   pub there : (s : S) → (s' : S') × R s s'
   pub classes : {s : S} {s' : S'} → R s s' → O .class s ≡ O' .class s'
+  pub fine-classes : {s : S} {s' : S'} → R s s' → O .fine s ≡ O' .fine s'
   pub forth : {e : ℕ} {s t : S} {s' : S'} → R s s' → M .step e s t → (t' : S') × M' .step e s' t' × R t t'
   pub back : {e : ℕ} {s : S} {s' t' : S'} → R s s' → M' .step e s' t' → (t : S) × M .step e s t × R t t'
 
@@ -80,9 +81,9 @@ module _ {S S' : Type 0} {M : Machine S} {O : Observation S} {M' : Machine S'} {
       let z = silent-back (a .after) (y .0) (y .2) in
       (z .0, record { from = x .0; to = y .0; before = x .1; step = y .1; after = z .1 }, z .2)
 
-  -- Where M steps from s to t, and u has the class of s, M' steps so too from related states, and what it answers there
-  -- goes back to M.
-  module _ (holds : Restrictive M' O') {e : ℕ} {s t u : S} (p : M .step e s t) (q : O .class u ≡ O .class s) where
+  -- Where M steps from s to t, M' steps so too from related states, and what it answers there from a state of the class
+  -- of s, or of its fine class, goes back to M.
+  module _ (holds : Restrictive M' O') (u : S) {e : ℕ} {s t : S} (p : M .step e s t) where
     abbrev from : (s' : S') × R s s'
     from = E .there s
 
@@ -92,8 +93,11 @@ module _ {S S' : Type 0} {M : Machine S} {O : Observation S} {M' : Machine S'} {
     abbrev other : (u' : S') × R u u'
     other = E .there u
 
-    alike : O' .class (other .0) ≡ O' .class (from .0)
-    alike = sym (E .classes (other .1)) ∙ q ∙ E .classes (from .1)
+    alike : O .class u ≡ O .class s → O' .class (other .0) ≡ O' .class (from .0)
+    alike q = sym (E .classes (other .1)) ∙ q ∙ E .classes (from .1)
+
+    fine-alike : O .fine u ≡ O .fine s → O' .fine (other .0) ≡ O' .fine (from .0)
+    fine-alike q = sym (E .fine-classes (other .1)) ∙ q ∙ E .fine-classes (from .1)
 
     given-back : {A' : S' → Type 0} {A : S → Type 0} → ((v' : S') → A' v' → (v : S) × A v × R v v')
         → (v' : S') × A' v' × (O' .class v' ≡ O' .class (step .0))
@@ -101,14 +105,14 @@ module _ {S S' : Type 0} {M : Machine S} {O : Observation S} {M' : Machine S'} {
     given-back f w = let x = f (w .0) (w .1) in
         (x .0, x .1, E .classes (x .2) ∙ w .2 ∙ sym (E .classes (step .2)))
 
-    by-step : role M' O' e ≡ low-input → Answers M O rule-3 e s t u
-    by-step h = given-back (λ v' a. E .back (other .1) a) (holds rule-3 e _ _ _ (h, step .1, alike))
+    by-step : O .class u ≡ O .class s → role M' O' e ≡ low-input → Answers M O rule-3 e s t u
+    by-step q h = given-back (λ v' a. E .back (other .1) a) (holds rule-3 e _ _ _ (h, step .1, alike q))
 
-    by-silent : role M' O' e ≡ silent → Answers M O rule-4 e s t u
-    by-silent h = given-back (λ v' a. silent-back a u (other .1)) (holds rule-4 e _ _ _ (h, step .1, alike))
+    by-silent : O .fine u ≡ O .fine s → role M' O' e ≡ silent → Answers M O rule-4 e s t u
+    by-silent q h = given-back (λ v' a. silent-back a u (other .1)) (holds rule-4 e _ _ _ (h, step .1, fine-alike q))
 
-    by-around : role M' O' e ≡ low-output → Answers M O rule-5 e s t u
-    by-around h = given-back (λ v' a. around-back a u (other .1)) (holds rule-5 e _ _ _ (h, step .1, alike))
+    by-around : O .fine u ≡ O .fine s → role M' O' e ≡ low-output → Answers M O rule-5 e s t u
+    by-around q h = given-back (λ v' a. around-back a u (other .1)) (holds rule-5 e _ _ _ (h, step .1, fine-alike q))
 
   pub earlier-related : Restrictive M' O' → Restrictive M O
   earlier-related holds rule-1 e s t u h =
@@ -121,13 +125,13 @@ module _ {S S' : Type 0} {M : Machine S} {O : Observation S} {M' : Machine S'} {
       let step = E .forth (from .1) p in
       E .classes (step .2) ∙ holds rule-2 e _ _ (from .0) (seen-alike tt (unseen e) h, step .1)
       ∙ sym (E .classes (from .1))
-  earlier-related holds rule-3 e s t u (h, p, q) = by-step holds p q (seen-alike tt (unseen e) h)
+  earlier-related holds rule-3 e s t u (h, p, q) = by-step holds u p q (seen-alike tt (unseen e) h)
   earlier-related holds rule-4 e s t u (h, p, q) =
       ⊎-elim
-      (by-silent holds p q)
-      (λ l. answer-silent M O e s t u h (by-around holds p q l))
+      (by-silent holds u p q)
+      (λ l. answer-silent M O e s t u h (by-around holds u p q l))
       (silent-was (unseen e) h)
-  earlier-related holds rule-5 e s t u (h, p, q) = by-around holds p q (seen-alike tt (unseen e) h)
+  earlier-related holds rule-5 e s t u (h, p, q) = by-around holds u p q (seen-alike tt (unseen e) h)
 
 step-from : {S : Type 0} (M : Machine S) {e : ℕ} {s s' t : S} → s ≡ s' → M .step e s t → M .step e s' t
 step-from M {e} {t = t} q p = subst (λ x. M .step e x t) q p
@@ -139,6 +143,7 @@ earlier-restrictive S M O =
       lows = refl;
       there = λ s. (s, refl);
       classes = λ r. ap (O .class) r;
+      fine-classes = λ r. ap (O .fine) r;
       forth = λ r p. (_, step-from M r p, refl);
       back = λ r p. (_, step-from M (sym r) p, refl);
     })

@@ -6,7 +6,7 @@ use Prim.Native.Nat.{ℕ}
 use mathlib.Core.Path.{_≡_, refl, sym, ap, _∙_, subst}
 use mathlib.Core.Bool.{Bool, true, false}
 use mathlib.Core.Logic.{_⊎_, inl, inr, ⊎-elim}
-use Rattle.machine.specs.Machine.{input, output, Event, Machine, Observation}
+use Rattle.machine.specs.Machine.{input, output, Event, Machine, Observation, Refined}
 use Rattle.machine.specs.Roles.{
   Role,
   missing,
@@ -71,6 +71,9 @@ module _ {SA SB SN : Type 0} {pair : SA → SB → SN} where
         classes =
             λ b b' a a'.
             (λ q. let w = P .classes a a' b b' .0 q in (w .1, w .0), λ w. P .classes a a' b b' .1 (w .1, w .0));
+        fine-classes =
+            λ b b' a a'.
+            (λ q. let w = P .fine-classes a a' b b' .0 q in (w .1, w .0), λ w. P .fine-classes a a' b b' .1 (w .1, w .0));
       }
 
 -- ---- the roles of an event in the leading component, in the other one and in the composite
@@ -161,8 +164,8 @@ module _ {S : Type 0} (M : Machine S) (O : Observation S) (R : Restrictive M O) 
 
 module _ {SA SB SN : Type 0} {A : Machine SA} {B : Machine SB} {N : Machine SN} {OA : Observation SA}
     {OB : Observation SB} {ON : Observation SN}
-    {pair : SA → SB → SN} (H : IsHookup A B N pair) (P : IsProduct OA OB ON pair) (RA : Restrictive A OA)
-    (RB : Restrictive B OB) where
+    {pair : SA → SB → SN} (H : IsHookup A B N pair) (P : IsProduct OA OB ON pair) (F : Refined OB)
+    (RA : Restrictive A OA) (RB : Restrictive B OB) where
   either-led : (e : ℕ) → Either-led (role A OA e) (role B OB e) (role N ON e)
   either-led e = rw (P .left-low, P .right-low) (combines-led _ (H .combined e))
 
@@ -192,10 +195,10 @@ module _ {SA SB SN : Type 0} {A : Machine SA} {B : Machine SB} {N : Machine SN} 
         → ON .class (pair v w) ≡ ON .class (pair a' b')
     together {v} {w} x y = P .classes v a' w b' .1 (x, y)
 
-    -- And (c, d) has the class of (a, b).
-    module _ {c : SA} {d : SB} (q : ON .class (pair c d) ≡ ON .class (pair a b)) where
-      abbrev alike : (OA .class c ≡ OA .class a) × (OB .class d ≡ OB .class b)
-      alike = P .classes c a d b .0 q
+    -- And (c, d) has the fine class of (a, b): so c has the fine class of a, and d the class of b.
+    module _ {c : SA} {d : SB} (q : ON .fine (pair c d) ≡ ON .fine (pair a b)) where
+      abbrev alike : (OA .fine c ≡ OA .fine a) × (OB .class d ≡ OB .class b)
+      alike = let w = P .fine-classes c a d b .0 q in (w .0, F d b (w .1))
 
       -- A silent event of A: A answers by rule 4, and B keeps its class.
       silently : role A OA e ≡ silent → Lacks-or high-input (role B OB e)
@@ -229,8 +232,9 @@ module _ {SA SB SN : Type 0} {A : Machine SA} {B : Machine SB} {N : Machine SN} 
       P .classes a' a b' b .1 (w, high-keeps B OB RB e (inl (i .1)) (follows e p))
   led e l rule-3 a a' c b b' d (h, p, q) =
       let i = leads-alone tt l h in
-      let w = RA rule-3 e a a' c (i .0, led-by e p tt (i .0), alike e p q .0) in
-      let x = low-move B OB RB e (inl (i .1)) (follows e p) d (alike e p q .1) in
+      let alike = P .classes c a d b .0 q in
+      let w = RA rule-3 e a a' c (i .0, led-by e p tt (i .0), alike .0) in
+      let x = low-move B OB RB e (inl (i .1)) (follows e p) d (alike .1) in
       (pair (w .0) (x .0), led-step (w .1) (x .1), together e p (w .2) (x .2))
   led e l rule-4 a a' c b b' d (h, p, q) =
       ⊎-elim
@@ -242,11 +246,11 @@ module _ {SA SB SN : Type 0} {A : Machine SA} {B : Machine SB} {N : Machine SN} 
       around e p q (i .0) (inl (i .1))
 
 pub hookup-restrictive : HookupRestrictive
-hookup-restrictive SA SB SN A B N OA OB ON pair H P RA RB r e s t u =
+hookup-restrictive SA SB SN A B N OA OB ON pair H P FA FB RA RB r e s t u =
     let x = H .paired s in
     let y = H .paired t in
     let z = H .paired u in
-    rw (x .2, y .2, z .2) (elim (either-led H P RA RB e) [
-      | inl l ↦ led H P RA RB e l r (x .0) (y .0) (z .0) (x .1) (y .1) (z .1)
-      | inr l ↦ led (hookup-swap H) (product-swap P) RB RA e l r (x .1) (y .1) (z .1) (x .0) (y .0) (z .0)
+    rw (x .2, y .2, z .2) (elim (either-led H P FB RA RB e) [
+      | inl l ↦ led H P FB RA RB e l r (x .0) (y .0) (z .0) (x .1) (y .1) (z .1)
+      | inr l ↦ led (hookup-swap H) (product-swap P) FA RB RA e l r (x .1) (y .1) (z .1) (x .0) (y .0) (z .0)
     ])

@@ -7,7 +7,7 @@ use mathlib.Core.Logic.{inl, inr}
 use mathlib.Core.List.{List, [], _∷_}
 use native.Mathlib.Omega.{arith}
 use lib.ListN.{length}
-use Rattle.machine.specs.Machine.{Machine, Observation}
+use Rattle.machine.specs.Machine.{Machine, Observation, Unlimited}
 use Rattle.machine.specs.Roles.{Role, missing, low-input, high-input, low-output, silent, role}
 use Rattle.machine.specs.Rules.{rule-1, rule-2, rule-3, rule-4, rule-5, Around, Restrictive}
 use Rattle.machine.specs.Traces.{Can, low-first, lows}
@@ -16,7 +16,7 @@ use Rattle.machine.proofs.Silent.{around-alone}
 use Rattle.machine.proofs.Traces.{IsLow, not-missing, Shows, shows-nothing}
 use Rattle.machine.proofs.Traces.{shows-high-input, shows-silent, shows-around}
 
-module _ {S : Type 0} (M : Machine S) (O : Observation S) (R : Restrictive M O) where
+module _ {S : Type 0} (M : Machine S) (O : Observation S) (U : Unlimited O) (R : Restrictive M O) where
   -- The high inputs of a list can be run first, since they keep the class.
   feed : (g : List ℕ) → HighInputs M O g → (c : ℕ) (ls : List ℕ) (gs : List (List ℕ))
       → ((v : S) → O .class v ≡ c → Shows M O v ls ([] ∷ gs))
@@ -52,7 +52,7 @@ module _ {S : Type 0} (M : Machine S) (O : Observation S) (R : Restrictive M O) 
 
   silent-before : (e : ℕ) (s t : S) (ls : List ℕ) → role M O e ≡ silent → M .step e s t → Answered t ls
       → Answered s ls
-  silent-before e s t ls h p rest gs hs n u q = let w = R rule-4 e s t u (h, p, q) in
+  silent-before e s t ls h p rest gs hs n u q = let w = R rule-4 e s t u (h, p, U u s q) in
       shows-silent M O (w .1) (rest gs hs n (w .0) (w .2))
 
   step-before : (r : Role) (e : ℕ) (s t : S) (ls : List ℕ) → role M O e ≡ r → M .step e s t → Answered t ls
@@ -65,7 +65,7 @@ module _ {S : Type 0} (M : Machine S) (O : Observation S) (R : Restrictive M O) 
       (w .0, around-alone M O e (w .1), w .2))
   step-before high-input e s t ls r p = high-input-before e s t _ r p
   step-before low-output e s t ls r p =
-      low-before e s t _ (inr r) (λ u q. R rule-5 e s t u (r, p, q))
+      low-before e s t _ (inr r) (λ u q. R rule-5 e s t u (r, p, U u s q))
   step-before silent e s t ls r p = silent-before e s t _ r p
 
   answered : (l : List ℕ) (s : S) → Can M s l → Answered s (lows M O l)
@@ -75,8 +75,8 @@ module _ {S : Type 0} (M : Machine S) (O : Observation S) (R : Restrictive M O) 
   answered (e ∷ l) s c gs hs n u q = step-before _ e s (c .0) _ refl (c .1) (answered l (c .0) (c .2)) gs hs n u q
 
 pub restrictive-hides : RestrictiveHides
-restrictive-hides S M O R l c [] n hs = absurd (omega arith)
-restrictive-hides S M O R l c (g ∷ gs) n hs =
+restrictive-hides S M O U R l c [] n hs = absurd (omega arith)
+restrictive-hides S M O U R l c (g ∷ gs) n hs =
     let m : length gs ≡ length (lows M O l) = omega arith in
-    let w = feed M O R g (hs .0) _ _ _ (answered M O R l (M .start) c gs (hs .1) m) (M .start) refl in
+    let w = feed M O U R g (hs .0) _ _ _ (answered M O U R l (M .start) c gs (hs .1) m) (M .start) refl in
     record { other = w .list; trace = w .can; same-lows = w .its-lows; given-gaps = w .its-gaps }

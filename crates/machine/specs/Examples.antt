@@ -22,7 +22,7 @@ abbrev M : Machine (Unit {0})
 M = record { start = tt; events = five; step = λ e s t. five e ≡ absent → ⊥; present = λ e s t p. p }
 
 abbrev O : Observation (Unit {0})
-O = record { low = λ l. eqb l 0; class = λ s. 0 }
+O = record { low = λ l. eqb l 0; class = λ s. 0; fine = λ s. 0 }
 
 low-events : List ℕ → List ℕ
 unfolding lows low-first role-of at-level

@@ -3,7 +3,7 @@
 use Prim.Native.Nat.{ℕ}
 use mathlib.Core.Path.{_≡_}
 use mathlib.Core.Logic.{_↔_}
-use Rattle.machine.specs.Machine.{Kind, input, output, internal, Event, absent, event, Machine, Observation}
+use Rattle.machine.specs.Machine.{Kind, input, output, internal, Event, absent, event, Machine, Observation, Refined}
 use Rattle.machine.specs.Rules.{Restrictive}
 
 -- What the composite has under an identifier, from what the two components have: the event of the only one that has it, or an internal
@@ -32,15 +32,19 @@ pub record IsHookup {SA SB SN : Type 0} (A : Machine SA) (B : Machine SB) (N : M
   pub paired : (s : SN) → (a : SA) × (b : SB) × (s ≡ pair a b)
   pub apart : (a a' : SA) (b b' : SB) → pair a b ≡ pair a' b' → (a ≡ a') × (b ≡ b')
 
--- The product of two observations: the same levels are low for all three, and two pairs have one class exactly if both components have.
+-- The product of two observations: the same levels are low for all three, and two pairs have one class exactly if both components have,
+-- and one fine class exactly if both components have.
 pub record IsProduct {SA SB SN : Type 0} (OA : Observation SA) (OB : Observation SB) (ON : Observation SN) (pair : SA → SB → SN) : Type 0 where
   pub left-low : OA .low ≡ ON .low
   pub right-low : OB .low ≡ ON .low
   pub classes : (a a' : SA) (b b' : SB)
       → (ON .class (pair a b) ≡ ON .class (pair a' b')) ↔ ((OA .class a ≡ OA .class a') × (OB .class b ≡ OB .class b'))
+  pub fine-classes : (a a' : SA) (b b' : SB)
+      → (ON .fine (pair a b) ≡ ON .fine (pair a' b')) ↔ ((OA .fine a ≡ OA .fine a') × (OB .fine b ≡ OB .fine b'))
 
--- A hookup of restrictive machines is restrictive.
+-- A hookup of restrictive machines, with fine classes inside their classes, is restrictive.
 abbrev pub HookupRestrictive : Type 1
 HookupRestrictive =
     (SA SB SN : Type 0) (A : Machine SA) (B : Machine SB) (N : Machine SN) (OA : Observation SA) (OB : Observation SB) (ON : Observation SN)
-    (pair : SA → SB → SN) → IsHookup A B N pair → IsProduct OA OB ON pair → Restrictive A OA → Restrictive B OB → Restrictive N ON
+    (pair : SA → SB → SN) → IsHookup A B N pair → IsProduct OA OB ON pair → Refined OA → Refined OB → Restrictive A OA → Restrictive B OB
+    → Restrictive N ON

@@ -21,8 +21,17 @@ pub record Machine (S : Type 0) : Type 1 where
   pub step : ℕ → S → S → Type 0
   pub present : (e : ℕ) (s t : S) → step e s t → events e ≡ absent → ⊥
 
--- An observation of a machine: the levels that are low for the observer (document 01, "Levels"), and the partition of the states, as
--- the class of each (document 01: the proposed grouping).
+-- An observation of a machine: the levels that are low for the observer (document 01, "Levels"), and two partitions of the states: the
+-- class of each (document 01: the proposed grouping; document 02, l: the coarse class), and its fine class.
 pub record Observation (S : Type 0) : Type 0 where
   pub low : ℕ → Bool
   pub class : S → ℕ
+  pub fine : S → ℕ
+
+-- The fine classes lie inside the classes.
+abbrev pub Refined : {S : Type 0} → Observation S → Type 0
+Refined {S} O = (s t : S) → O .fine s ≡ O .fine t → O .class s ≡ O .class t
+
+-- The observation is unlimited: no class has more than one fine class.
+abbrev pub Unlimited : {S : Type 0} → Observation S → Type 0
+Unlimited {S} O = (s t : S) → O .class s ≡ O .class t → O .fine s ≡ O .fine t

@@ -3,7 +3,7 @@ use Prim.Native.Nat.{ℕ, suc}
 use mathlib.Core.Path.{_≡_}
 use mathlib.Core.List.{List, [], _∷_}
 use lib.ListN.{length}
-use Rattle.machine.specs.Machine.{Machine, Observation}
+use Rattle.machine.specs.Machine.{Machine, Observation, Refined, Unlimited}
 use Rattle.machine.specs.Roles.{high-input, role}
 use Rattle.machine.specs.Rules.{Restrictive}
 use Rattle.machine.specs.Traces.{Trace, lows, gaps}
@@ -29,6 +29,11 @@ module _ {S : Type 0} (M : Machine S) (O : Observation S) where
   abbrev pub Noninterfering : Type 0
   Noninterfering = (l : List ℕ) → Trace M l → (gs : List (List ℕ)) → length gs ≡ suc (length (lows M O l)) → AllHighInputs gs → Matching l gs
 
--- Restrictive machines are noninterfering.
+-- Machines that are restrictive with an unlimited observation are noninterfering.
 abbrev pub RestrictiveHides : Type 1
-RestrictiveHides = (S : Type 0) (M : Machine S) (O : Observation S) → Restrictive M O → Noninterfering M O
+RestrictiveHides = (S : Type 0) (M : Machine S) (O : Observation S) → Unlimited O → Restrictive M O → Noninterfering M O
+
+-- With a limited observation they need not be: some machine is restrictive with an observation whose fine classes lie inside its classes,
+-- and is not noninterfering.
+abbrev pub LimitedShows : Type 1
+LimitedShows = (S : Type 0) × (M : Machine S) × (O : Observation S) × Refined O × Restrictive M O × (Noninterfering M O → ⊥)

@@ -1,4 +1,5 @@
--- The five rules of restrictiveness (document 01, "The five rules"; source 001), with internal events unseen (document 02, i).
+-- The five rules of restrictiveness (document 01, "The five rules"; source 001), with internal events unseen (document 02, i) and with
+-- classes and fine classes (document 02, l).
 use Prim.Native.Nat.{ℕ}
 use mathlib.Core.Path.{_≡_}
 use Rattle.machine.specs.Machine.{Machine, Observation}
@@ -18,15 +19,15 @@ module _ {S : Type 0} (M : Machine S) (O : Observation S) where
     pub step : M .step e from to
     pub after : Silent M O to v
 
-  -- Where a rule asks something of the machine at e, s, t, u. Rule 1: at every input. Rule 2: where a high input leads from s to t. The
-  -- others: where the event leads from s to t, and u has the class of s; a low input for 3, a silent event (a high output or an internal
-  -- event) for 4, a low output for 5.
+  -- Where a rule asks something of the machine at e, s, t, u. Rule 1: at every input. Rule 2: where a high input leads from s to t. Rule 3:
+  -- where a low input leads from s to t, and u has the class of s. The others: where the event leads from s to t, and u has the fine class
+  -- of s; a silent event (a high output or an internal event) for 4, a low output for 5.
   abbrev pub Asks : Rule → ℕ → S → S → S → Type 0
   Asks rule-1 e s t u = IsInput (role M O e)
   Asks rule-2 e s t u = (role M O e ≡ high-input) × M .step e s t
   Asks rule-3 e s t u = (role M O e ≡ low-input) × M .step e s t × (O .class u ≡ O .class s)
-  Asks rule-4 e s t u = (role M O e ≡ silent) × M .step e s t × (O .class u ≡ O .class s)
-  Asks rule-5 e s t u = (role M O e ≡ low-output) × M .step e s t × (O .class u ≡ O .class s)
+  Asks rule-4 e s t u = (role M O e ≡ silent) × M .step e s t × (O .fine u ≡ O .fine s)
+  Asks rule-5 e s t u = (role M O e ≡ low-output) × M .step e s t × (O .fine u ≡ O .fine s)
 
   -- What it asks. Rule 1: a step from s. Rule 2: that t has the class of s. The others: that u can answer with a state of t's class, by
   -- the event (3), by silent steps (4), by silent steps, the event and silent steps (5).

@@ -1,5 +1,5 @@
 -- The limits of a part, and the format of its record: where its columns, entries and rows begin, and how long it is, as
--- functions of its kind and its counts (document 01, "The part record"; document 02, k). Readers, layout, sizes and the writer cite this page.
+-- functions of its kind and its counts (document 01, "The part record"; document 02, k and l). Readers, layout, sizes and the writer cite this page.
 use Prim.Native.Nat.{ℕ, _+_, _*_}
 use mathlib.Core.Bool.{cond}
 use lib.Dec.{eqb}
@@ -16,12 +16,15 @@ max-events = 32
 abbrev pub max-event-kind : ℕ
 max-event-kind = 2
 
--- The kinds of record: a part with one observer, and one with several.
+-- The kinds of record: a part with one observer, one with several, and a limited one, with one observer and a finer column.
 abbrev pub single-kind : ℕ
 single-kind = 1
 
 abbrev pub several-kind : ℕ
 several-kind = 2
+
+abbrev pub limited-kind : ℕ
+limited-kind = 3
 
 -- Kind 2 has at least so many observers, and no part has more than so many.
 abbrev pub least-listed : ℕ
@@ -39,18 +42,23 @@ header = 6
 abbrev pub lists-at : ℕ
 lists-at = header + 4
 
--- A record's form: how many observers it has, where their levels begin, how many levels are listed, and how many class columns there are.
--- Kind 1: the first byte is the observer's level. Nothing is listed, and there is one class column.
+-- A record's form: how many observers it has, where their levels begin, how many levels are listed, how many columns there are, and how many
+-- columns behind its class column the fine column of an observer stands; where it is none, they are one column.
+-- Kind 1: the first byte is the observer's level. Nothing is listed, and there is one column.
 abbrev pub one-observer : Form
-one-observer = record { observers = 1; levels = header; listed = 0; columns = 1 }
+one-observer = record { observers = 1; levels = header; listed = 0; columns = 1; finer = 0 }
 
--- Kind 2: the first byte counts the observers. Their levels are listed, and each has a class column.
+-- Kind 2: the first byte counts the observers. Their levels are listed, and each has a column.
 abbrev pub several-observers : ℕ → Form
-several-observers count = record { observers = count; levels = lists-at; listed = count; columns = count }
+several-observers count = record { observers = count; levels = lists-at; listed = count; columns = count; finer = 0 }
+
+-- Kind 3: as kind 1, with a second, finer column behind the first.
+abbrev pub limited-part : Form
+limited-part = record { observers = 1; levels = header; listed = 0; columns = 2; finer = 1 }
 
 -- The form of a record, by its kind and its first byte.
 unfoldable pub form : ℕ → ℕ → Form
-form kind lead = cond (eqb kind several-kind) (several-observers lead) one-observer
+form kind lead = cond (eqb kind several-kind) (several-observers lead) (cond (eqb kind limited-kind) limited-part one-observer)
 
 -- The columns stand behind the list, one behind the other. A column has a byte for each state.
 abbrev pub columns-at : Counts → ℕ
@@ -67,7 +75,7 @@ entries-at c = columns-at c + c .form .columns * c .states
 abbrev pub rows-at : Counts → ℕ
 rows-at c = entries-at c + 4 * c .events
 
--- The body has 4 + n + 4m + 8mn bytes in kind 1, and 4 + c + cn + 4m + 8mn with c observers in kind 2.
+-- The body has 4 + n + 4m + 8mn bytes in kind 1, 4 + c + cn + 4m + 8mn with c observers in kind 2, and 4 + 2n + 4m + 8mn in kind 3.
 abbrev pub body-size : Counts → ℕ
 body-size c = 4 + c .form .listed + c .form .columns * c .states + 4 * c .events + 8 * (c .events * c .states)
 

@@ -1,4 +1,4 @@
--- The bytes of a part's record from its fields, in the order of document 01, "The part record", and of document 02, k.
+-- The bytes of a part's record from its fields, in the order of document 01, "The part record", and of document 02, k and l.
 use Prim.Native.Nat.{ℕ}
 use mathlib.Core.List.{List, [], _∷_, _++_}
 use Rattle.bounded.specs.Search.{each}
@@ -17,7 +17,7 @@ pub record Table : Type 0 where
   pub level : ℕ → ℕ
   pub row : ℕ → ℕ → ℕ
 
--- The fields of a record: its kind, the first byte of its body, the table, the levels that are listed, and the class columns.
+-- The fields of a record: its kind, the first byte of its body, the table, the levels that are listed, and the columns.
 pub record Fields : Type 0 where
   pub kind : ℕ
   pub lead : ℕ
@@ -32,9 +32,9 @@ shape f = form (f .kind) (f .lead)
 abbrev pub counts-of : Fields → Counts
 counts-of f = record { form = shape f; states = f .table .states; events = f .table .events }
 
--- Class column o.
+-- Column j.
 abbrev pub column-of : Fields → ℕ → List ℕ
-column-of f o = each (f .table .states) (λ s. f .class o s ∷ [])
+column-of f j = each (f .table .states) (λ s. f .class j s ∷ [])
 
 -- The entry of the event at place i, and all its rows.
 abbrev pub entry-of : Table → ℕ → List ℕ
@@ -43,7 +43,7 @@ entry-of t i = digits 2 (t .identifier i) ++ t .event-kind i ∷ t .level i ∷ 
 abbrev pub rows-of : Table → ℕ → List ℕ
 rows-of t i = each (t .states) (λ s. digits 8 (t .row i s))
 
--- Four numbers, the listed levels, the class columns, the entry of each event, the row of each event and state.
+-- Four numbers, the listed levels, the columns, the entry of each event, the row of each event and state.
 unfoldable pub body : Fields → List ℕ
 body f =
     f .lead ∷ f .table .states ∷ f .table .start ∷ f .table .events ∷ []

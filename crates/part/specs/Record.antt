@@ -45,26 +45,37 @@ observer b o = byte b (form-of b .levels + o)
 unfoldable pub listed-level : List ℕ → ℕ → ℕ
 listed-level b o = byte b (lists-at + o)
 
--- Class column o: the class of each state, a byte each.
+-- How many columns it has, and column j: a class of each state, a byte each.
+abbrev pub columns : List ℕ → ℕ
+columns b = form-of b .columns
+
 unfoldable pub column : List ℕ → ℕ → List ℕ
-column b o = take (states b) (drop (column-at (counts b) o) b)
+column b j = take (states b) (drop (column-at (counts b) j) b)
 
--- The class of state s in column o.
+-- The class of state s in column j. Column o has the classes for observer o.
 abbrev pub class : List ℕ → ℕ → ℕ → ℕ
-class b o s = byte (column b o) s
+class b j s = byte (column b j) s
 
--- An observer of a part: its level, and the class of each state for it (document 01: the proposed grouping).
+-- The fine column of observer o, and the fine class of state s for it: in kinds 1 and 2 the classes themselves.
+abbrev pub fine-column : List ℕ → ℕ → List ℕ
+fine-column b o = column b (form-of b .finer + o)
+
+abbrev pub fine : List ℕ → ℕ → ℕ → ℕ
+fine b o s = byte (fine-column b o) s
+
+-- An observer of a part: its level, and for it the class of each state (document 01: the proposed grouping) and its fine class.
 pub record Observer : Type 0 where
   pub level : ℕ
   pub class : ℕ → ℕ
+  pub fine : ℕ → ℕ
 
--- An observer of this level, with the classes of a column.
-abbrev pub observing : ℕ → List ℕ → Observer
-observing level column = record { level = level; class = byte column }
+-- An observer of this level, with the classes of a column and the fine ones of another.
+abbrev pub observing : ℕ → List ℕ → List ℕ → Observer
+observing level column fine = record { level = level; class = byte column; fine = byte fine }
 
--- Observer o of the record, which has column o.
+-- Observer o of the record.
 abbrev pub observer-of : List ℕ → ℕ → Observer
-observer-of b o = observing (observer b o) (column b o)
+observer-of b o = observing (observer b o) (column b o) (fine-column b o)
 
 -- In a column, one above the largest class of the states below s; 0 where there are none.
 unfoldable pub classes-below : List ℕ → ℕ → ℕ

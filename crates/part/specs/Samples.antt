@@ -49,6 +49,16 @@ two-observers =
     ++ 0x01 ∷ 0x00 ∷ 0x00 ∷ 0x40 ∷ []
     ++ digits 8 2 ++ digits 8 1
 
+-- A record of kind 3 with the same table, for an observer of level 0: both states have one class, and each has its own fine class.
+abbrev pub limited-sample : List ℕ
+limited-sample =
+    0x1C ∷ 0 ∷ 0 ∷ 0 ∷ 0x03 ∷ 0 ∷ []
+    ++ 0x00 ∷ 0x02 ∷ 0x00 ∷ 0x01 ∷ []
+    ++ 0x00 ∷ 0x00 ∷ []
+    ++ 0x00 ∷ 0x01 ∷ []
+    ++ 0x01 ∷ 0x00 ∷ 0x00 ∷ 0x40 ∷ []
+    ++ digits 8 2 ++ digits 8 1
+
 -- A record of kind 1: a table, and one observer with its level and the class of each state.
 abbrev pub observed : Table → ℕ → (ℕ → ℕ) → Fields
 observed table level class =

@@ -7,7 +7,7 @@ ghost use Rattle.words.specs.LittleEndian.{byte};
 ghost use Rattle.words.specs.Arrays.{Filled, words-of};
 ghost use Rattle.part.specs.Format.{header, lists-at};
 ghost use Rattle.part.specs.Frame.{Few};
-ghost use Rattle.part.specs.Record.{body-length, kind, lead, form-of, observers, observer, states, start, events, counts, column, entry-at, identifier, event-kind, level, row-at, row};
+ghost use Rattle.part.specs.Record.{body-length, kind, lead, form-of, observers, observer, states, start, events, counts, column, fine-column, entry-at, identifier, event-kind, level, row-at, row};
 ghost use Rattle.part.specs.Frame.{class-count, Rising, Framed};
 ghost use Rattle.part.specs.Frame.{place-or-end};
 use crate::format::Counts;
@@ -54,10 +54,12 @@ impl Part {
         + Part::ENTRY * Part::EVENTS
         + Part::ROW * Part::ROWS;
 
-    // The kinds of record: with one observer, and with several.
+    // The kinds of record: with one observer, with several, and limited, with one observer and a finer column.
     pub const SINGLE: usize = 1;
 
     pub const SEVERAL: usize = 2;
+
+    pub const LIMITED: usize = 3;
 
     // A record with several observers lists at least so many.
     pub const LEAST_LISTED: usize = 2;
@@ -154,16 +156,26 @@ impl Part {
         }
     }
 
-    // Class column o, as a part of the record.
-    pub fn column(b: &[u8], o: usize) -> &[u8]
+    // Column j, as a part of the record.
+    pub fn column(b: &[u8], j: usize) -> &[u8]
         requires { ⌜ Framed (now b) ⌝ }
-        requires { ⌜ o < form-of (now b) .columns ⌝ }
-        ensures { λ r. ⌜ now r ≡ column (now (b .entry)) o ⌝ }
+        requires { ⌜ j < form-of (now b) .columns ⌝ }
+        ensures { λ r. ⌜ now r ≡ column (now (b .entry)) j ⌝ }
     {
         let counts = Part::counts(b);
-        let at = counts.column_at(o);
+        let at = counts.column_at(j);
         let end = at + counts.states;
         &b[at..end]
+    }
+
+    // The fine column of observer o.
+    pub fn fine_column(b: &[u8], o: usize) -> &[u8]
+        requires { ⌜ Framed (now b) ⌝ }
+        requires { ⌜ o < observers (now b) ⌝ }
+        ensures { λ r. ⌜ now r ≡ fine-column (now (b .entry)) o ⌝ }
+    {
+        let form = Part::form(b);
+        Part::column(b, form.finer + o)
     }
 
     // How many classes a column has: one above the largest.

@@ -18,6 +18,16 @@ impl Form {
                 levels: Part::LISTS,
                 listed: lead,
                 columns: lead,
+                finer: 0,
+            };
+        }
+        if kind == Part::LIMITED {
+            return Form {
+                observers: 1,
+                levels: Part::HEADER,
+                listed: 0,
+                columns: 2,
+                finer: 1,
             };
         }
         Form {
@@ -25,18 +35,19 @@ impl Form {
             levels: Part::HEADER,
             listed: 0,
             columns: 1,
+            finer: 0,
         }
     }
 }
 
 impl Counts {
-    // Column o, behind the list and the columns before it. A column has a byte for each state.
-    pub fn column_at(self, o: usize) -> usize
+    // Column j, behind the list and the columns before it. A column has a byte for each state.
+    pub fn column_at(self, j: usize) -> usize
         requires { ⌜ Few self ⌝ }
-        requires { ⌜ o < self .form .columns ⌝ }
-        ensures { λ r. ⌜ r ≡ column-at self o ⌝ }
+        requires { ⌜ j < self .form .columns ⌝ }
+        ensures { λ r. ⌜ r ≡ column-at self j ⌝ }
     {
-        Part::LISTS + self.form.listed + o * self.states
+        Part::LISTS + self.form.listed + j * self.states
     }
 
     // The entries stand behind the columns.

@@ -13,7 +13,7 @@ use Rattle.words.proofs.Sets.{bit-zero, bit-union, bit-intersection, bit-differ
 use Rattle.part.specs.Record.{events, event-kind}
 use Rattle.relations.specs.Sets.{seen-at, Concerned}
 use Rattle.relations.proofs.Roles.{speaks, concerned-speaks}
-use Rattle.relations.proofs.Sorted.{below-next}
+use Rattle.partition.proofs.Sorted.{below-next}
 
 -- ---- the numbers below i that pass a test, as a set
 

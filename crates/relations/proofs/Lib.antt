@@ -1,10 +1,7 @@
 pub mod InPlace
-pub mod Sorted
 pub mod Roles
 pub mod Concerned
 pub mod StepRows
 pub mod Searches
 pub mod SilentReach
 pub mod Theorems
-pub mod ClassRows
-pub mod ClassSeen

@@ -1,4 +1,3 @@
-// The relations of a record's machine as sets: the events that each rule speaks of, the states of a class, the silent closure.
-pub mod classes;
+// The relations of a record's machine as sets: the events that each rule speaks of, the silent closure.
 pub mod event;
 pub mod silent;

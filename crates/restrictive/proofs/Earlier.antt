@@ -23,19 +23,19 @@ use Rattle.words.proofs.LittleEndian.{length-each, number-same, bytes-part, sta
 use Rattle.level.specs.Level.{low, mislabelled}
 use Rattle.part.specs.Format.{lists-at, entries-at, rows-at, column-at, max-event-kind, body-size, record-size}
 use Rattle.part.specs.Record.{body-length, kind, lead, form-of, observers, observer, states, start, events, counts}
-use Rattle.part.specs.Record.{column, entry-at}
+use Rattle.part.specs.Record.{column, fine-column, entry-at}
 use Rattle.part.specs.Record.{identifier, event-kind, level, row-at, row}
 use Rattle.part.specs.declared.format.Form.{Form}
 use Rattle.part.specs.declared.format.Counts.{Counts}
 use Rattle.part.specs.Frame.{Few}
-use Rattle.part.proofs.Fields.{formed, classes-before}
+use Rattle.part.proofs.Fields.{formed, own-column, own-fine-column, classes-before}
 use Rattle.screening.specs.Rejections.{too-short, wrong-length, wrong-kind, out-of-range, wrong-size, unnumbered, misnumbered-at, misnumbered}
 use Rattle.screening.specs.Rejections.{falls, mislisted, unknown-at, misordered-at, misordered, mislabelled-at, mislabelled-observer}
-use Rattle.screening.specs.Rejections.{mislabelled-part}
+use Rattle.screening.specs.Rejections.{mislabelled-part, misrefined, frame-conditions, content-conditions}
 use Rattle.screening.specs.Rejections.{strays-at, row-strays, stray-bit, Accepted}
 use Rattle.part.specs.Events.{kind-of, at-place, place, event-of, Leads}
 use Rattle.screening.specs.Machine.{machine, observation}
-use Rattle.screening.proofs.Accepted.{in-frame, not-too-short, not-wrong-length, not-wrong-kind, not-out-of-range}
+use Rattle.screening.proofs.Accepted.{none-both, not-misrefined, in-frame, not-too-short, not-wrong-length, not-wrong-kind, not-out-of-range}
 use Rattle.screening.proofs.Accepted.{not-wrong-size, not-mislisted, not-misnumbered, not-misordered, not-mislabelled, not-stray}
 use Rattle.screening.proofs.Ranges.{frame, ranges}
 use Rattle.screening.proofs.Places.{places}
@@ -136,24 +136,27 @@ module _ (b : List ℕ) (a : Accepted (as-outputs b)) where
 
   -- ---- each observer
 
-  module _ (o : ℕ) (l : o < observers b) where
-    same-observer : observer c o ≡ observer b o
-    unfolding observer
-    same-observer =
-        let w = formed (kind b) (lead b) in
-        ap (λ (f : Form). byte c (f .levels + o)) same-form
-        ∙ front (form-of b .levels + o) (omega (arith, w .before)) (omega (arith, w .before, whole))
+  same-observer : (o : ℕ) → o < observers b → observer c o ≡ observer b o
+  unfolding observer
+  same-observer o l =
+      let w = formed (kind b) (lead b) in
+      ap (λ (f : Form). byte c (f .levels + o)) same-form
+      ∙ front (form-of b .levels + o) (omega (arith, w .before)) (omega (arith, w .before, whole))
 
-    same-column : column c o ≡ column b o
-    unfolding column
-    same-column =
-        let at = column-at (counts b) o in
-        let inside = classes-before (counts b) few o (omega (arith, formed (kind b) (lead b) .own)) in
-        ap (λ (k : Counts). take (k .states) (drop (column-at k o) c)) same-counts
-        ∙ sym (bytes-part (states b) c at (omega (arith, whole, length-as b)))
-        ∙ each-same (states b) (λ s. byte c (at + s) ∷ []) (λ s. byte b (at + s) ∷ [])
-        (λ s h. ap (λ (x : ℕ). x ∷ []) (front (at + s) (omega arith) (omega (arith, whole))))
-        ∙ bytes-part (states b) b at (omega (arith, whole))
+  same-column : (j : ℕ) → j < form-of b .columns → column c j ≡ column b j
+  unfolding column
+  same-column j l =
+      let at = column-at (counts b) j in
+      let inside = classes-before (counts b) few j l in
+      ap (λ (k : Counts). take (k .states) (drop (column-at k j) c)) same-counts
+      ∙ sym (bytes-part (states b) c at (omega (arith, whole, length-as b)))
+      ∙ each-same (states b) (λ s. byte c (at + s) ∷ []) (λ s. byte b (at + s) ∷ [])
+      (λ s h. ap (λ (x : ℕ). x ∷ []) (front (at + s) (omega arith) (omega (arith, whole))))
+      ∙ bytes-part (states b) b at (omega (arith, whole))
+
+  same-fine : (o : ℕ) → o < observers b → fine-column c o ≡ fine-column b o
+  same-fine o l =
+      ap (λ (f : Form). column c (f .finer + o)) same-form ∙ same-column _ (own-fine-column b o l)
 
   same-entry : (i : ℕ) → entry-at c i ≡ entry-at b i
   unfolding entry-at
@@ -232,7 +235,17 @@ module _ (b : List ℕ) (a : Accepted (as-outputs b)) where
 
   numbered : misnumbered b ≡ misnumbered c
   unfolding misnumbered misnumbered-at
-  numbered = at-each _ _ same-observers (λ o h. ap unnumbered (sym (same-column o h)))
+  numbered = at-each _ _ same-observers (λ o h. ap unnumbered (sym (same-column o (own-column b o h))))
+
+  refined : misrefined b ≡ misrefined c
+  unfolding misrefined
+  refined =
+      let some : 0 < observers b = omega (arith, frame c a .some-observer, same-observers) in
+      let first = same-column 0 (own-column b 0 some) in
+      let fine = same-fine 0 some in
+      let kinds = same-kind in
+      let states = same-states in
+      cc
 
   in-place : (i : ℕ) → i < events b → misordered-at b i ≡ misordered-at c i
   unfolding misordered-at unknown-at
@@ -260,19 +273,22 @@ module _ (b : List ℕ) (a : Accepted (as-outputs b)) where
   pub earlier-accepted : Accepted b
   earlier-accepted =
       let f = in-frame c a in
-      search (
+      none-both frame-conditions content-conditions b
+      (search (
         short ∙ not-too-short c f,
         in-length ∙ not-wrong-length c f,
         of-kind ∙ not-wrong-kind c f,
         in-range ∙ not-out-of-range c f,
         in-size ∙ not-wrong-size c f,
         in-list ∙ not-mislisted c f,
+      ))
+      (search (
         numbered ∙ not-misnumbered c a,
+        refined ∙ not-misrefined c a,
         ordered ∙ not-misordered c a,
         labelled ∙ not-mislabelled c a,
         within ∙ not-stray c a,
-      )
-      depth 8
+      ))
 
   -- ---- the machines
 
@@ -313,7 +329,8 @@ module _ (b : List ℕ) (a : Accepted (as-outputs b)) where
     events = earlier-event;
     lows = ap low (same-observer o l);
     there = λ s. ((s .0, rw same-states (s .1)), refl);
-    classes = λ {s} {s'} r. rw (r, same-column o l) refl;
+    classes = λ {s} {s'} r. rw (r, same-column o (own-column b o l)) refl;
+    fine-classes = λ {s} {s'} r. rw (r, same-fine o l) refl;
     forth = λ {e} {s} {t} {s'} r p. ((t .0, rw same-states (t .1)), rw r at (earlier-leads e _ _ (s .1) .0 p), refl);
     back = λ {e} {s} {s'} {t'} r p.
         ((t' .0, rw same-states at (t' .1)), earlier-leads e _ _ (s .1) .1 (rw (← r) at p), refl);

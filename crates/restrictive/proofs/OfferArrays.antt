@@ -12,10 +12,12 @@ use Rattle.words.specs.Sets.{bit, Rows, gathered}
 use Rattle.words.proofs.Sets.{gathered-within}
 use Rattle.part.specs.Record.{states, events, row, Observer}
 use Rattle.part.specs.Frame.{Framed}
-use Rattle.relations.specs.Relations.{leads, reach-for, same-class, rule-at}
+use Rattle.partition.specs.Classes.{same-class}
+use Rattle.partition.specs.Sets.{ClassOf, ClassMates, offered, offered-states}
+use Rattle.relations.specs.Relations.{leads, reach-for, rule-at}
 use Rattle.restrictive.specs.Tests.{around}
-use Rattle.relations.specs.Sets.{RowsWithin, Concerned, ClassOf, ClassMates, offered, offered-states}
-use Rattle.restrictive.specs.Sets.{led-to, reached, offer, permits, Offers, Permitted, OfferedDirectly}
+use Rattle.relations.specs.Sets.{RowsWithin, Concerned}
+use Rattle.restrictive.specs.Sets.{led-to, reached, offer, beside, permits, Offers, Permitted, OfferedDirectly}
 use Rattle.restrictive.specs.Sets.{OfferedSilently}
 use Rattle.restrictive.proofs.Offers.{permits-own, eqb-swap}
 use Rattle.relations.proofs.SilentReach.{reach-alone, reach-within}
@@ -67,14 +69,14 @@ any-self n u f h =
 -- ---- what states offer at an event
 
 -- the classes behind silent steps, the event and silent steps
-around-classes : (b : List ℕ) (o : Observer) (i u c : ℕ)
-    → any (states b) (λ p. reach-for b (o .level) u p && any (states b) (λ q. leads b i p q && reached b o q c))
-    ≡ any (states b) (λ v. around b (o .level) i u v && eqb (o .class v) c)
+around-classes : (b : List ℕ) (l : ℕ) (class : ℕ → ℕ) (i u c : ℕ)
+    → any (states b) (λ p. reach-for b l u p && any (states b) (λ q. leads b i p q && reached b l class q c))
+    ≡ any (states b) (λ v. around b l i u v && eqb (class v) c)
 unfolding around reached
-around-classes b o i u c =
-    last-first _ (reach-for b (o .level) u) (leads b i) (reach-for b (o .level)) (λ v. eqb (o .class v) c)
+around-classes b l class i u c =
+    last-first _ (reach-for b l u) (leads b i) (reach-for b l) (λ v. eqb (class v) c)
 
-module _ (b : List ℕ) (o : Observer) (framed : Framed b) (within : RowsWithin b) where
+module _ (b : List ℕ) (l : ℕ) (class : ℕ → ℕ) (framed : Framed b) (within : RowsWithin b) where
   -- the rows of an event, looked up in a table that is known
   looked-as : (i s : ℕ) (table : List ℕ) (g : ℕ → ℕ → Bool) → i < events b → s < states b → Rows (states b) table g
       → (c : ℕ) → gathered 64 (row b i s) table c ≡ any (states b) (λ t. leads b i s t && g t c)
@@ -84,70 +86,72 @@ module _ (b : List ℕ) (o : Observer) (framed : Framed b) (within : RowsWithin 
       (λ t l. within i s t p h l) of
 
   -- the closure of a state, looked up likewise
-  closure-as : (closure table : List ℕ) (g : ℕ → ℕ → Bool) → Rows (states b) closure (reach-for b (o .level))
+  closure-as : (closure table : List ℕ) (g : ℕ → ℕ → Bool) → Rows (states b) closure (reach-for b l)
       → Rows (states b) table g
       → (s : ℕ) → s < states b → (c : ℕ)
-      → gathered 64 (getD closure s 0) table c ≡ any (states b) (λ t. reach-for b (o .level) s t && g t c)
+      → gathered 64 (getD closure s 0) table c ≡ any (states b) (λ t. reach-for b l s t && g t c)
   closure-as closure table g closed of s h =
-      gathered-as (states b) (getD closure s 0) table (reach-for b (o .level) s) g (framed .few .most-states) (closed s h)
-      (λ t l. reach-within b (o .level) within s t h l) of
+      gathered-as (states b) (getD closure s 0) table (reach-for b l s) g (framed .few .most-states) (closed s h)
+      (λ t m. reach-within b l within s t h m) of
 
   -- the classes of the closure
-  pub reached-classes : (closure own words : List ℕ) → Rows (states b) closure (reach-for b (o .level))
-      → ClassOf (states b) (o .class) own
-      → Rows (states b) words (λ s. gathered 64 (getD closure s 0) own) → Rows (states b) words (reached b o)
+  pub reached-classes : (closure own words : List ℕ) → Rows (states b) closure (reach-for b l)
+      → ClassOf (states b) class own
+      → Rows (states b) words (λ s. gathered 64 (getD closure s 0) own) → Rows (states b) words (reached b l class)
   unfolding reached
   reached-classes closure own words closed owns g s h c = g s h c
-      ∙ closure-as closure own (λ t x. eqb (o .class t) x) closed (owns .words) s h c
+      ∙ closure-as closure own (λ t x. eqb (class t) x) closed (owns .words) s h c
 
   -- rule 3
-  pub direct-led : (own : List ℕ) → ClassOf (states b) (o .class) own → OfferedDirectly b o 2 own
+  pub direct-led : (own : List ℕ) → ClassOf (states b) class own → OfferedDirectly b l class 2 own
   unfolding offer rule-at led-to
-  direct-led own owns i p words up s h c = up s h c ∙ looked-as i s _ (λ t x. eqb (o .class t) x) p h (owns .words) c
+  direct-led own owns i p words up s h c = up s h c ∙ looked-as i s _ (λ t x. eqb (class t) x) p h (owns .words) c
 
   -- rule 5
-  pub around-offers : (closure table : List ℕ) → Rows (states b) closure (reach-for b (o .level))
-      → Rows (states b) table (reached b o) → OfferedSilently b o 4 closure table
+  pub around-offers : (closure table : List ℕ) → Rows (states b) closure (reach-for b l)
+      → Rows (states b) table (reached b l class) → OfferedSilently b l class 4 closure table
   unfolding offer rule-at
   around-offers closure table closed of i p after words up g s h c =
       g s h c
       ∙ closure-as closure after _ closed (λ v l x. up v l x ∙ looked-as i v _ _ p l of x) s h c
-      ∙ around-classes b o i s c
+      ∙ around-classes b l class i s c
 
   -- rule 5 without silent events: nothing but the event
-  module _ (silent : ℕ) (of : Concerned b (o .level) 3 silent) (empty : silent ≡ 0) where
-    alone : (s t : ℕ) → s < states b → reach-for b (o .level) s t ≡ eqb s t
-    alone = reach-alone b (o .level) silent of empty
+  module _ (silent : ℕ) (of : Concerned b l 3 silent) (empty : silent ≡ 0) where
+    alone : (s t : ℕ) → s < states b → reach-for b l s t ≡ eqb s t
+    alone = reach-alone b l silent of empty
 
-    reached-own : (q c : ℕ) → q < states b → reached b o q c ≡ eqb (o .class q) c
+    reached-own : (q c : ℕ) → q < states b → reached b l class q c ≡ eqb (class q) c
     unfolding reached
     reached-own q c h =
-        any-same _ _ _ (λ v l. ap (λ (p : Bool). p && eqb (o .class v) c) (alone q v h)) ∙ any-self _ q _ h
+        any-same _ _ _ (λ v l. ap (λ (p : Bool). p && eqb (class v) c) (alone q v h)) ∙ any-self _ q _ h
 
-    pub direct-alone : (own : List ℕ) → ClassOf (states b) (o .class) own → OfferedDirectly b o 4 own
+    pub direct-alone : (own : List ℕ) → ClassOf (states b) class own → OfferedDirectly b l class 4 own
     unfolding offer rule-at
     direct-alone own owns i p words up s h c =
-        up s h c ∙ looked-as i s _ (λ t x. eqb (o .class t) x) p h (owns .words) c
+        up s h c ∙ looked-as i s _ (λ t x. eqb (class t) x) p h (owns .words) c
         ∙ sym (any-same _ _ _ (λ q l. ap (λ (r : Bool). leads b i s q && r) (reached-own q c l)))
         ∙ sym (any-self _ s _ h)
         ∙ sym (any-same _ _ _
-        (λ v l. ap (λ (r : Bool). r && any (states b) (λ q. leads b i v q && reached b o q c)) (alone s v h)))
-        ∙ around-classes b o i s c
+        (λ v m. ap (λ (r : Bool). r && any (states b) (λ q. leads b i v q && reached b l class q c)) (alone s v h)))
+        ∙ around-classes b l class i s c
 
 -- rule 4: the classes of the closure, whatever the event is
-pub reached-offers : (b : List ℕ) (o : Observer) (words : List ℕ) → Rows (states b) words (reached b o) → (i : ℕ)
-    → Offers b o 3 i words
+pub reached-offers : (b : List ℕ) (l : ℕ) (class : ℕ → ℕ) (words : List ℕ) → Rows (states b) words (reached b l class) → (i : ℕ)
+    → Offers b l class 3 i words
 unfolding offer rule-at
-reached-offers b o words g i = g
+reached-offers b l class words g i = g
 
 -- ---- the states that an event may lead to
 
-pub offered-permitted : (b : List ℕ) (o : Observer) (k i : ℕ) (offers words : List ℕ) → Offers b o k i offers
-    → Rows (states b) words (offered-states (states b) (o .class) offers) → Permitted b o k i words
+pub offered-permitted : (b : List ℕ) (o : Observer) (k i : ℕ) (offers words : List ℕ)
+    → Offers b (o .level) (o .class) k i offers
+    → Rows (states b) words (offered-states (states b) (o .class) (beside o (rule-at k)) offers) → Permitted b o k i words
 unfolding permits offered offered-states same-class
 offered-permitted b o k i offers words offering g s h t l =
     g s h t ∙ and-now _ _ (lt-ltb _ _ l)
-    ∙ all-same _ _ _ (λ u m. ap (λ (p : Bool). not (eqb (o .class u) (o .class s)) || p) (offering u m (o .class t)))
+    ∙ all-same _ _ _
+    (λ u m. ap (λ (p : Bool). not (eqb (beside o (rule-at k) u) (beside o (rule-at k) s)) || p) (offering u m (o .class t)))
 
 pub mates-permitted : (b : List ℕ) (o : Observer) (words : List ℕ) → ClassMates (states b) (o .class) words → (i : ℕ)
     → Permitted b o 1 i words

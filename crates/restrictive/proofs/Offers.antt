@@ -15,12 +15,15 @@ use Rattle.bounded.proofs.Search.{all-at, all-intro, any-found, any-next, any-n
 use Rattle.bounded.proofs.Search.{same-truth, is-false, is-true, true-not-false, imp-elim, imp-intro, not-refuted}
 use Rattle.bounded.proofs.Search.{true-or-false, and-right}
 use Rattle.machine.specs.Rules.{Rule, rule-1, rule-2, rule-3, rule-4, rule-5}
-use Rattle.part.specs.Record.{states, identifier, row, Observer}
-use Rattle.relations.specs.Relations.{role-at, concerns, leads, same-class, rule-at}
+use Rattle.words.specs.LittleEndian.{byte}
+use Rattle.part.specs.Record.{states, identifier, row, Observer, observing}
+use Rattle.partition.specs.Sets.{Inside}
+use Rattle.partition.specs.Classes.{same-class}
+use Rattle.relations.specs.Relations.{role-at, concerns, leads, rule-at}
 use Rattle.restrictive.specs.declared.answer.Case.{Case}
 use Rattle.restrictive.specs.Tests.{asks, answers, broken}
-use Rattle.restrictive.specs.Verdict.{Violation, violation-at, state-violation, event-violation}
-use Rattle.restrictive.specs.Sets.{Enabled, led-to, reached, offer, permits, observer-in, Judgeable, Asked}
+use Rattle.restrictive.specs.Verdict.{Violation, violation-at, state-violation, event-violation, rule-violation}
+use Rattle.restrictive.specs.Sets.{Enabled, led-to, reached, offer, beside, permits, observer-in, Beside, Judgeable, Asked}
 use Rattle.restrictive.specs.Sets.{Offers}
 use Rattle.words.specs.Sets.{bit, intersection}
 use Rattle.words.proofs.Sets.{bit-intersection, bit-zero, all-below}
@@ -39,14 +42,44 @@ module _ (b : List ℕ) (o : Observer) (k i s t u : ℕ) where
   unfolding violation-at when
   not-violated e = rw e
 
--- ---- rules 3 to 5: u has the class of s, and does not offer the class of t
+-- ---- rules 3 to 5: u stands beside s, and does not offer the class of t
 
 pub eqb-swap : (m n : ℕ) → eqb m n ≡ eqb n m
 eqb-swap m n = same-truth _ _ (λ e. eq-eqb n m (sym (eqb-true m n e))) (λ e. eq-eqb m n (sym (eqb-true n m e)))
 
+-- A rule takes u among the fine classes, and rule 3 among the classes, which then stand for them.
+pub beside-fine : (l k : ℕ) (column fine : List ℕ) → 2 ≤ k → k < 5 → Beside k column fine
+    → beside (observing l column fine) (rule-at k) ≡ byte fine
+unfolding rule-at
+beside-fine l zero column fine h m e = absurd (omega arith)
+beside-fine l (suc zero) column fine h m e = absurd (omega arith)
+beside-fine l (suc (suc zero)) column fine h m e = ap byte (sym (e refl))
+beside-fine l (suc (suc (suc zero))) column fine h m e = refl
+beside-fine l (suc (suc (suc (suc k)))) column fine h m e = refl
+
+-- Where the fine classes lie inside the classes, u has the class of s.
+pub beside-class : (o : Observer) (n : ℕ) → Inside n (o .class) (o .fine) → (r : Rule) (s u : ℕ) → s < n → u < n
+    → same-class (beside o r) u s ≡ true → same-class (o .class) u s ≡ true
+unfolding same-class
+beside-class o n inside rule-1 s u h l q = q
+beside-class o n inside rule-2 s u h l q = q
+beside-class o n inside rule-3 s u h l q = q
+beside-class o n inside rule-4 s u h l q = eq-eqb _ _ (inside u s l h (eqb-true _ _ q))
+beside-class o n inside rule-5 s u h l q = eq-eqb _ _ (inside u s l h (eqb-true _ _ q))
+
+-- Rules 1 to 3 ask nothing of the fine classes.
+pub coarse-rule : (b : List ℕ) (o : Observer) (k : ℕ) → k < 3
+    → rule-violation b (record { level = o .level; class = o .class; fine = o .class }) k ≡ rule-violation b o k
+unfolding rule-violation event-violation state-violation violation-at broken asks answers rule-at
+coarse-rule b o zero h = refl
+coarse-rule b o (suc zero) h = refl
+coarse-rule b o (suc (suc zero)) h = refl
+coarse-rule b o (suc (suc (suc k))) h = absurd (omega arith)
+
 module _ (b : List ℕ) (o : Observer) where
   pub broken-asked : (k i s t u : ℕ) → 2 ≤ k → k < 5 → Asked b (o .level) k i s t
-      → broken b o (rule-at k) i s t u ≡ (same-class (o .class) u s && not (offer b o (rule-at k) i u (o .class t)))
+      → broken b o (rule-at k) i s t u
+      ≡ (same-class (beside o (rule-at k)) u s && not (offer b (o .level) (o .class) (rule-at k) i u (o .class t)))
   unfolding broken asks answers rule-at same-class offer led-to reached
   broken-asked zero i s t u h l a = absurd (omega arith)
   broken-asked (suc zero) i s t u h l a = absurd (omega arith)
@@ -108,7 +141,8 @@ module _ (b : List ℕ) (o : Observer) where
   permits-step (suc zero) i s t u h l hs hu a p = broken-leaving i s t u a ∙ ap not (sym (permits-own i s _ hs) ∙ p)
   permits-step (suc (suc k)) i s t u h l hs hu a p =
       broken-asked _ i s t u (omega arith) l a
-      ∙ not-refuted (same-class (o .class) u s) (offer b o (rule-at (suc (suc k))) i u (o .class t))
+      ∙ not-refuted (same-class (beside o (rule-at (suc (suc k)))) u s)
+      (offer b (o .level) (o .class) (rule-at (suc (suc k))) i u (o .class t))
       (imp-elim _ _ (all-at _ _ p u hu))
 
   pub leaves-class : (k i s t u : ℕ) → k ≡ 1 → s < states b → Asked b (o .level) k i s t
@@ -145,56 +179,57 @@ none-by b o k i l e = first-nothing _ _ (λ s h. none-at b o k i s (λ t u p q. 
 
 -- ---- the sets say where a rule is broken
 
-module _ (b column : List ℕ) (c : Case) (permitted offers : List ℕ) (w : Judgeable b column c permitted offers) where
-  abbrev o : Observer
-  o = observer-in column c
+module _ (b column fine : List ℕ) (c : Case) (permitted offers : List ℕ) (w : Judgeable b column fine c permitted offers)
+  where
+    abbrev o : Observer
+    o = observer-in column fine c
 
-  abbrev k : ℕ
-  k = c .rule
+    abbrev k : ℕ
+    k = c .rule
 
-  abbrev i : ℕ
-  i = c .event
+    abbrev i : ℕ
+    i = c .event
 
-  -- the event does not lead from s to t
-  pub no-step : (s t : ℕ) → leads b i s t ≡ false → first (states b) (violation-at b o k i s t) ≡ none
-  no-step s t e = none-there b o k i s t (λ u l. not-led b o k i s t u (w .later) (w .last) (w .speaks) e)
+    -- the event does not lead from s to t
+    pub no-step : (s t : ℕ) → leads b i s t ≡ false → first (states b) (violation-at b o k i s t) ≡ none
+    no-step s t e = none-there b o k i s t (λ u l. not-led b o k i s t u (w .later) (w .last) (w .speaks) e)
 
-  -- it leads there, and may
-  pub permitted-step : (s t : ℕ) → s < states b → t < states b → leads b i s t ≡ true
-      → bit (getD permitted s 0) t ≡ true
-      → first (states b) (violation-at b o k i s t) ≡ none
-  permitted-step s t h l e p =
-      none-there b o k i s t
-      (λ u m. permits-step b o k i s t u (w .later) (w .last) h m (w .speaks, e) (sym (w .permitting s h t l) ∙ p))
+    -- it leads there, and may
+    pub permitted-step : (s t : ℕ) → s < states b → t < states b → leads b i s t ≡ true
+        → bit (getD permitted s 0) t ≡ true
+        → first (states b) (violation-at b o k i s t) ≡ none
+    permitted-step s t h l e p =
+        none-there b o k i s t
+        (λ u m. permits-step b o k i s t u (w .later) (w .last) h m (w .speaks, e) (sym (w .permitting s h t l) ∙ p))
 
-  -- it leads from s only to states that it may lead to
-  pub all-permitted : (s x : ℕ) → s < states b → x ≡ row b i s → intersection x (getD permitted s 0) ≡ x
-      → state-violation b o k i s ≡ none
-  unfolding state-violation leads
-  all-permitted s x h from e =
-      first-nothing _ _ (λ t l.
-      ⊎-elim (λ p. permitted-step s t h l p (within t p)) (λ p. no-step s t p) (true-or-false _))
-    where
-      within : (t : ℕ) → bit (row b i s) t ≡ true → bit (getD permitted s 0) t ≡ true
-      within t p =
-          and-right (bit x t) (bit (getD permitted s 0) t)
-          (sym (bit-intersection x _ t) ∙ ap (λ (y : ℕ). bit y t) (e ∙ from) ∙ p)
+    -- it leads from s only to states that it may lead to
+    pub all-permitted : (s x : ℕ) → s < states b → x ≡ row b i s → intersection x (getD permitted s 0) ≡ x
+        → state-violation b o k i s ≡ none
+    unfolding state-violation leads
+    all-permitted s x h from e =
+        first-nothing _ _ (λ t l.
+        ⊎-elim (λ p. permitted-step s t h l p (within t p)) (λ p. no-step s t p) (true-or-false _))
+      where
+        within : (t : ℕ) → bit (row b i s) t ≡ true → bit (getD permitted s 0) t ≡ true
+        within t p =
+            and-right (bit x t) (bit (getD permitted s 0) t)
+            (sym (bit-intersection x _ t) ∙ ap (λ (y : ℕ). bit y t) (e ∙ from) ∙ p)
 
-  -- rule 2: it leads there, and t has another class
-  pub leaving : k ≡ 1 → 1 ≤ states b → (s t : ℕ) → s < states b → t < states b → leads b i s t ≡ true
-      → bit (getD permitted s 0) t ≡ false
-      → first (states b) (violation-at b o k i s t) ≡ some (the-violation b o k i s t 0)
-  leaving e n s t h l p q =
-      any-other b o k i s t n (leaves-class b o k i s t 0 e h (w .speaks, p) (sym (w .permitting s h t l) ∙ q))
+    -- rule 2: it leads there, and t has another class
+    pub leaving : k ≡ 1 → 1 ≤ states b → (s t : ℕ) → s < states b → t < states b → leads b i s t ≡ true
+        → bit (getD permitted s 0) t ≡ false
+        → first (states b) (violation-at b o k i s t) ≡ some (the-violation b o k i s t 0)
+    leaving e n s t h l p q =
+        any-other b o k i s t n (leaves-class b o k i s t 0 e h (w .speaks, p) (sym (w .permitting s h t l) ∙ q))
 
 -- The test of the code for rules 3 to 5 is the rule's.
 pub broken-by-set : (b : List ℕ) (o : Observer) (k i s t u : ℕ) (offers : List ℕ) → 2 ≤ k → k < 5
-    → Asked b (o .level) k i s t → Offers b o k i offers
+    → Asked b (o .level) k i s t → Offers b (o .level) (o .class) k i offers
     → u < states b
-    → broken b o (rule-at k) i s t u ≡ (same-class (o .class) u s && not (bit (getD offers u 0) (o .class t)))
+    → broken b o (rule-at k) i s t u ≡ (same-class (beside o (rule-at k)) u s && not (bit (getD offers u 0) (o .class t)))
 broken-by-set b o k i s t u offers h l a offering hu =
     broken-asked b o k i s t u h l a
-    ∙ ap (λ (p : Bool). same-class (o .class) u s && not p) (sym (offering u hu (o .class t)))
+    ∙ ap (λ (p : Bool). same-class (beside o (rule-at k)) u s && not p) (sym (offering u hu (o .class t)))
 
 -- ---- rule 1: a state with no step
 

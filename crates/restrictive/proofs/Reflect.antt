@@ -1,5 +1,5 @@
 -- The tests are the rules: each holds at the place of an event and at states exactly where the relation does.
-use Prim.Native.Nat.{ℕ}
+use Prim.Native.Nat.{ℕ, _+_}
 use mathlib.Core.Path.{_≡_, refl, ap, subst}
 use mathlib.Core.Bool.{Bool, not, _&&_}
 use mathlib.Core.List.{List}
@@ -10,12 +10,13 @@ use Rattle.bounded.specs.Search.{any}
 use Rattle.machine.specs.Roles.{missing, role-of, role}
 use Rattle.machine.specs.Rules.{Rule, rule-1, rule-2, rule-3, rule-4, rule-5, Around, Asks, Answers, Broken}
 use Rattle.level.specs.Level.{low}
-use Rattle.part.specs.Record.{observer, states, class, observer-of}
+use Rattle.part.specs.Record.{form-of, observer, states, class, observer-of}
 use Rattle.screening.specs.Rejections.{Accepted}
 use Rattle.screening.specs.Machine.{State, machine, observation}
 use Rattle.part.specs.Events.{place}
 use Rattle.part.proofs.Places.{event-none}
-use Rattle.relations.specs.Relations.{role-at, concerns, leads, same-class, reach}
+use Rattle.partition.specs.Classes.{same-class}
+use Rattle.relations.specs.Relations.{role-at, concerns, leads, reach}
 use Rattle.restrictive.specs.Tests.{around, asks, answers, broken}
 use Rattle.bounded.proofs.Truth.{eqb-iff, and-iff, and-three-iff, not-iff, any-iff, any-both-iff}
 use Rattle.relations.proofs.Roles.{Concerns, concerns-iff}
@@ -24,8 +25,7 @@ use Rattle.relations.proofs.SilentReach.{concerns-at, leads-iff, reach-silent}
 -- ---- classes
 
 module _ (b : List ℕ) (o : ℕ) where
-  class-iff : (s t : State b)
-      → T (same-class (class b o) (s .0) (t .0)) ↔ (observation b o .class s ≡ observation b o .class t)
+  class-iff : (s t : State b) → T (same-class (class b o) (s .0) (t .0)) ↔ (class b o (s .0) ≡ class b o (t .0))
   unfolding same-class
   class-iff s t = eqb-iff _ _
 
@@ -41,14 +41,14 @@ module _ (b : List ℕ) (a : Accepted b) (o e i : ℕ) (p : place b e ≡ some i
   steps : (s t : State b) → T (leads b i (s .0) (t .0)) ↔ machine b a .step e s t
   steps = leads-iff b a o e i p
 
-  -- An event that a rule speaks of leads from s to t, and u has the class of s.
-  step-iff : (q : Rule) (s t u : State b)
-      → T (concerns q (role-at b (observer b o) i) && leads b i (s .0) (t .0) && same-class (class b o) (u .0) (s .0))
+  -- An event that a rule speaks of leads from s to t, and u has the class of s in a column.
+  step-iff : (q : Rule) (j : ℕ) (s t u : State b)
+      → T (concerns q (role-at b (observer b o) i) && leads b i (s .0) (t .0) && same-class (class b j) (u .0) (s .0))
       ↔ (Concerns q (role (machine b a) (observation b o) e) × machine b a .step e s
-      t × (observation b o .class u ≡ observation b o .class s))
-  step-iff q s t u =
+      t × (class b j (u .0) ≡ class b j (s .0)))
+  step-iff q j s t u =
       and-three-iff (concerns q (role-at b (observer b o) i)) (leads b i (s .0) (t .0))
-      (same-class (class b o) (u .0) (s .0)) (concerns-at b a o e i p q) (steps s t) (class-iff b o u s)
+      (same-class (class b j) (u .0) (s .0)) (concerns-at b a o e i p q) (steps s t) (class-iff b j u s)
 
   pub asks-iff : (r : Rule) (s t u : State b)
       → T (asks b (observer-of b o) r i (s .0) (t .0) (u .0)) ↔ Asks (machine b a) (observation b o) r e s t u
@@ -57,9 +57,9 @@ module _ (b : List ℕ) (a : Accepted b) (o e i : ℕ) (p : place b e ≡ some i
   asks-iff rule-2 s t u =
       and-iff (concerns rule-2 (role-at b (observer b o) i)) (leads b i (s .0) (t .0)) (concerns-at b a o e i p rule-2)
       (steps s t)
-  asks-iff rule-3 s t u = step-iff rule-3 s t u
-  asks-iff rule-4 s t u = step-iff rule-4 s t u
-  asks-iff rule-5 s t u = step-iff rule-5 s t u
+  asks-iff rule-3 s t u = step-iff rule-3 o s t u
+  asks-iff rule-4 s t u = step-iff rule-4 (form-of b .finer + o) s t u
+  asks-iff rule-5 s t u = step-iff rule-5 (form-of b .finer + o) s t u
 
   around-iff : (u v : State b) → T (around b (observer b o) i (u .0) (v .0)) ↔ Around (machine b a) (observation b o)
       e u v

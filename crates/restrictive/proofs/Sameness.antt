@@ -1,4 +1,4 @@
--- Where the states of a class offer the same, rules 3 to 5 are not broken: a state answers its own steps.
+-- Where the states beside each other offer the same, rules 3 to 5 are not broken: a state answers its own steps.
 use Prim.Native.Nat.{ℕ, zero, suc, _≤_, _<_}
 use mathlib.Core.Path.{_≡_, refl, sym, ap, _∙_}
 use mathlib.Core.Bool.{Bool, true, _&&_}
@@ -16,13 +16,15 @@ use Rattle.machine.specs.Roles.{silent}
 use Rattle.words.specs.Sets.{bit}
 use Rattle.words.proofs.Sets.{bit-zero}
 use Rattle.part.specs.Record.{states, events, Observer}
-use Rattle.relations.specs.Relations.{role-at, is-role, concerns, leads, step-by, silent-step, reach-for, same-class, rule-at}
+use Rattle.relations.specs.Relations.{role-at, is-role, concerns, leads, step-by, silent-step, reach-for, rule-at}
 use Rattle.relations.proofs.SilentReach.{reach-self, reach-step}
 use Rattle.restrictive.specs.Tests.{around}
 use Rattle.restrictive.specs.Verdict.{event-violation, rule-violation, violation-for}
-use Rattle.relations.specs.Sets.{Concerned, AllDistinct, ClasswiseEqual}
-use Rattle.restrictive.specs.Sets.{led-to, reached, offer, Asked, Offers}
-use Rattle.restrictive.proofs.Offers.{broken-asked, not-led, none-at, none-by}
+use Rattle.partition.specs.Classes.{same-class}
+use Rattle.partition.specs.Sets.{Inside, AllDistinct, ClasswiseEqual}
+use Rattle.relations.specs.Sets.{Concerned}
+use Rattle.restrictive.specs.Sets.{led-to, reached, offer, beside, Asked, Offers}
+use Rattle.restrictive.proofs.Offers.{broken-asked, not-led, none-at, none-by, beside-class}
 
 -- ---- a state answers its own steps
 
@@ -44,7 +46,7 @@ module _ (b : List ℕ) (o : Observer) (i s t : ℕ) (hs : s < states b) (ht : t
   silent-there l r e = any-at _ _ i l (and-now _ _ r ∙ e)
 
   own-offer : (k : ℕ) → 2 ≤ k → k < 5 → i < events b → Asked b (o .level) k i s t
-      → offer b o (rule-at k) i s (o .class t) ≡ true
+      → offer b (o .level) (o .class) (rule-at k) i s (o .class t) ≡ true
   unfolding offer rule-at led-to reached
   own-offer zero h l p a = absurd (omega arith)
   own-offer (suc zero) h l p a = absurd (omega arith)
@@ -54,12 +56,12 @@ module _ (b : List ℕ) (o : Observer) (i s t : ℕ) (hs : s < states b) (ht : t
   own-offer (suc (suc (suc (suc zero)))) h l p a = at-class (around b (o .level) i s) (around-step (a .1))
   own-offer (suc (suc (suc (suc (suc k))))) h l p a = absurd (omega arith)
 
--- ---- where the states of a class offer the same
+-- ---- where the states beside each other offer the same
 
 module _ (b : List ℕ) (o : Observer) (k i : ℕ) (h : 2 ≤ k) (l : k < 5) (placed : i < events b) where
   same-none : concerns (rule-at k) (role-at b (o .level) i) ≡ true
-      → ((s u c : ℕ) → s < states b → u < states b → same-class (o .class) u s ≡ true
-      → offer b o (rule-at k) i u c ≡ offer b o (rule-at k) i s c)
+      → ((s u c : ℕ) → s < states b → u < states b → same-class (beside o (rule-at k)) u s ≡ true
+      → offer b (o .level) (o .class) (rule-at k) i u c ≡ offer b (o .level) (o .class) (rule-at k) i s c)
       → event-violation b o k i ≡ none
   unfolding event-violation
   same-none speaks same =
@@ -73,16 +75,19 @@ module _ (b : List ℕ) (o : Observer) (k i : ℕ) (h : 2 ≤ k) (l : k < 5) (pl
       (true-or-false _)))
 
   -- the arrays say so
-  pub equal-none : (offers : List ℕ) → concerns (rule-at k) (role-at b (o .level) i) ≡ true → Offers b o k i offers
-      → ClasswiseEqual (states b) (o .class) offers → event-violation b o k i ≡ none
+  pub equal-none : (offers : List ℕ) → concerns (rule-at k) (role-at b (o .level) i) ≡ true
+      → Offers b (o .level) (o .class) k i offers
+      → ClasswiseEqual (states b) (beside o (rule-at k)) offers → event-violation b o k i ≡ none
   equal-none offers speaks offering equal =
       same-none speaks (λ s u c hs hu q. sym (offering u hu c) ∙ ap (λ (x : ℕ). bit x c) (equal s u hs hu q)
       ∙ offering s hs c)
 
-  distinct-none : concerns (rule-at k) (role-at b (o .level) i) ≡ true → AllDistinct (states b) (o .class)
-      → event-violation b o k i ≡ none
-  distinct-none speaks distinct =
-      same-none speaks (λ s u c hs hu q. ap (λ (v : ℕ). offer b o (rule-at k) i v c) (distinct s u hs hu q))
+  distinct-none : concerns (rule-at k) (role-at b (o .level) i) ≡ true → Inside (states b) (o .class) (o .fine)
+      → AllDistinct (states b) (o .class) → event-violation b o k i ≡ none
+  distinct-none speaks inside distinct =
+      same-none speaks (λ s u c hs hu q.
+      ap (λ (v : ℕ). offer b (o .level) (o .class) (rule-at k) i v c)
+      (distinct s u hs hu (beside-class o (states b) inside (rule-at k) s u hs hu q)))
 
 -- ---- a rule that no event breaks
 
@@ -108,11 +113,11 @@ no-events b o e = first-nothing _ 5 (λ k l. rule-none b o k l (λ i h. absurd (
 
 -- Where no two states share a class, rules 1 and 2 decide.
 pub distinct-rules : (b : List ℕ) (o : Observer) → first 2 (rule-violation b o) ≡ none
-    → AllDistinct (states b) (o .class) → violation-for b o ≡ none
+    → Inside (states b) (o .class) (o .fine) → AllDistinct (states b) (o .class) → violation-for b o ≡ none
 unfolding violation-for
-distinct-rules b o two distinct =
+distinct-rules b o two inside distinct =
     first-nothing _ 5 (λ k l.
     elim (decLt k 2) [
       | yes h ↦ first-none _ 2 two k h
-      | no h ↦ rule-none b o k l (λ i p speaks. distinct-none b o k i (omega arith) l p speaks distinct)
+      | no h ↦ rule-none b o k l (λ i p speaks. distinct-none b o k i (omega arith) l p speaks inside distinct)
     ])

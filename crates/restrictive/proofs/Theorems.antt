@@ -11,19 +11,23 @@ use Rattle.bounded.proofs.Paths.{length-visits}
 use Rattle.machine.specs.Rules.{Rule, rule-1, rule-2, rule-3, rule-4, rule-5, Restrictive}
 use Rattle.machine.proofs.Noninterference.{restrictive-hides}
 use Rattle.machine.proofs.Earlier.{earlier-related}
-use Rattle.part.specs.Record.{observers, observer, states, observer-of}
+use Rattle.words.specs.LittleEndian.{byte}
+use Rattle.partition.specs.Theorems.{LimitOf}
+use Rattle.partition.proofs.Limits.{limit-of}
+use Rattle.part.specs.Record.{observers, observer, states, column, fine-column, observer-of}
 use Rattle.screening.specs.Rejections.{Condition, first-of, rejection, Accepted}
 use Rattle.screening.specs.Machine.{machine, observation}
 use Rattle.screening.proofs.Accepted.{skip, hit, rejection-none}
 use Rattle.screening.proofs.Places.{places}
-use Rattle.screening.proofs.Ranges.{ranges}
+use Rattle.screening.proofs.Ranges.{ranges, frame, fine-inside, observations-unlimited}
 use Rattle.restrictive.specs.Tests.{answers}
 use Rattle.relations.specs.Relations.{rule-at, silent-step, reach-for, visits-for, visits, closure-sizes}
 use Rattle.relations.proofs.SilentReach.{reach-self}
 use Rattle.restrictive.specs.Verdict.{Violation, pass, refused, first-violation, by-rules, after-rejection}
-use Rattle.restrictive.specs.Verdict.{Verdict, breaks, verdict, taken-by, taken}
+use Rattle.restrictive.specs.Verdict.{Verdict, breaks, verdict, taken-by, taken, limit, limit-by, told-limit}
 use lib.ListN.{length, getD}
 use Rattle.restrictive.specs.Theorems.{
+  LimitExactly,
   PassesExactly,
   FirstHolding,
   here,
@@ -46,6 +50,7 @@ use Rattle.bounded.proofs.Truth.{not-not}
 use Rattle.restrictive.specs.Earlier.{as-outputs}
 use Rattle.restrictive.proofs.Earlier.{same-observers, earlier-accepted, is-earlier}
 use Rattle.restrictive.proofs.Taken.{taken-all, taken-none}
+use Rattle.restrictive.proofs.Verdicts.{one-limit}
 use Rattle.restrictive.proofs.Reflect.{answers-iff, broken-iff, asked-placed}
 use Rattle.restrictive.proofs.First.{Finds, finds-as, finds-first, Level, IsViolation, level-of, from-rule, finds-violation}
 
@@ -218,7 +223,49 @@ unfolding by-rules
 passing-restrictive b a e = restrictive-iff b a .0 (by-rules-iff b _ .0 e .1)
 
 pub passing-hides : PassingHides
-passing-hides b a e o l = restrictive-hides _ _ _ (passing-restrictive b a e o l)
+passing-hides b a n e o l = restrictive-hides _ _ _ (observations-unlimited b n o) (passing-restrictive b a e o l)
+
+-- The limit at a pass, and otherwise.
+module _ (b : List ℕ) where
+  limit-told : verdict b ≡ pass → told-limit b ≡ limit b
+  unfolding told-limit limit-by
+  limit-told e = ap (limit-by b) e
+
+  limit-untold : (verdict b ≡ pass → ⊥) → told-limit b ≡ 0
+  unfolding told-limit limit-by
+  limit-untold n = go (verdict b) n
+    where
+      go : (v : Verdict) → (v ≡ pass → ⊥) → limit-by b v ≡ 0
+      go pass n = absurd (n refl)
+      go (refused k) n = refl
+      go (breaks v) n = refl
+
+  pass-accepted : verdict b ≡ pass → Accepted b
+  pass-accepted e = passes-exactly b .0 e .0
+
+  its-limit : Accepted b → LimitOf (states b) (byte (column b 0)) (byte (fine-column b 0)) (limit b)
+  unfolding limit
+  its-limit a = limit-of _ _ _ (frame b a .one-state) (fine-inside b a 0 (frame b a .some-observer))
+
+-- It is at least 1.
+some-limit : {n k : ℕ} {class fine : ℕ → ℕ} → 1 ≤ n → LimitOf n class fine k → k ≡ 0 → ⊥
+some-limit {n} {k} {class} {fine} l w e =
+    let one = w .most (0 ∷ []) (record {
+      below = λ i h. let q : i ≡ 0 = omega arith in rw q (omega arith);
+      together = λ i j h m. let p : i ≡ 0 = omega arith in let q : j ≡ 0 = omega arith in rw (p, q) refl;
+      apart = λ i j h m. absurd (omega arith);
+    }) in
+    omega arith
+
+pub limit-exactly : LimitExactly
+limit-exactly b = record {
+  limited = λ e. rw (limit-told b e) (its-limit b (pass-accepted b e));
+  nothing = (
+    λ z e. some-limit (frame b (pass-accepted b e) .one-state) (its-limit b (pass-accepted b e)) (sym (limit-told b e) ∙ z),
+    limit-untold b,
+  );
+  unlimited = λ n e. limit-told b e ∙ one-limit b (pass-accepted b e) n;
+}
 
 pub earlier-passes : EarlierPasses
 earlier-passes b e =

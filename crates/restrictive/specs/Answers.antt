@@ -23,3 +23,4 @@ verdict-of (Break v) = plain.breaks (violation-of v)
 pub record Reports (b : List ℕ) (r : Report) : Type 0 where
   pub verdict : verdict-of (r .verdict) ≡ plain.verdict b
   pub taken : r .taken ≡ plain.taken b
+  pub limit : r .limit ≡ plain.told-limit b

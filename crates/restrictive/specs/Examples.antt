@@ -1,5 +1,5 @@
--- Records that tell the rules, the count and the order of the observers from their wrong readings (document 01, "Wrong readings"; document
--- 02, f, i and k).
+-- Records that tell the rules, the count, the order of the observers and the limit from their wrong readings (document 01, "Wrong readings";
+-- document 02, f, i, k and l).
 use Prim.Native.Nat.{ℕ, _+_, _*_}
 use mathlib.Core.Bool.{Bool, _&&_}
 use mathlib.Core.List.{List, [], _∷_, _++_}
@@ -8,7 +8,7 @@ use lib.ListN.{length}
 use Rattle.words.specs.LittleEndian.{number, digits}
 use Rattle.restrictive.specs.Verdict.{Verdict, pass, refused}
 use Rattle.restrictive.specs.Earlier.{holds-kind, as-output-byte, as-outputs}
-use Rattle.restrictive.specs.Judged.{judged, counted, same, broken-at, broken-for}
+use Rattle.restrictive.specs.Judged.{judged, counted, told, same, broken-at, broken-for}
 
 -- An entry, and a record for observer 0 with start 0 from classes, entries and rows.
 abbrev entry : ℕ → ℕ → ℕ → List ℕ
@@ -205,3 +205,60 @@ observers-so = each-asked && observer-first && own-count && alike && earlier-for
 several : T observers-so
 unfolding observers-so
 several = tt
+
+-- ---- limited parts (document 02, l)
+
+-- A record of kind 3 for observer 0 with start 0, from classes, fine classes, entries and rows.
+unfoldable finely : List ℕ → List ℕ → ℕ → List ℕ → List ℕ → List ℕ
+finely classes fine m entries rows =
+    digits 4 (4 + length classes + length fine + 4 * m + 8 * length rows) ++ 3 ∷ 0 ∷ 0 ∷ length classes ∷ 0 ∷ m ∷ []
+    ++ classes ++ fine ++ entries ++ words rows
+
+-- The verdict, the count and the limit.
+limited-so : List ℕ → Verdict → ℕ → ℕ → Bool
+unfolding judged counted told finely sample for-two
+limited-so b v k l = same (judged b) v && eqb (counted b) k && eqb (told b) l
+
+-- High input 1 leads to state 1, and low output 2 comes in state 0 alone. Only state 0 has the fine class of 0, so that rule 5 asks nothing of
+-- state 1; rule 2 asks for the class and not for the fine class. Where the fine classes are the classes, it breaks rule 5, as in kind 1.
+abbrev latch : List ℕ → List ℕ
+latch fine = finely (0 ∷ 0 ∷ []) fine 2 (entry 1 0 0x40 ++ entry 2 1 0) (2 ∷ 2 ∷ 1 ∷ 0 ∷ [])
+
+abbrev latched : Bool
+latched =
+    limited-so (latch (0 ∷ 1 ∷ [])) pass 2 2
+    && limited-so (latch (0 ∷ 0 ∷ [])) (broken-at 5 2 0 0 1) 2 0
+    && limited-so (sample (0 ∷ 0 ∷ []) 2 (entry 1 0 0x40 ++ entry 2 1 0) (2 ∷ 2 ∷ 1 ∷ 0 ∷ [])) (broken-at 5 2 0 0 1) 2 0
+
+-- Rule 4 likewise: high output 1 leads from state 0 to state 2, of another class, and state 1 has the class of 0. Rule 3 takes u among the
+-- classes: low input 1 does not lead from state 1 to the class of 2.
+abbrev from-fine : Bool
+from-fine =
+    limited-so (finely (0 ∷ 0 ∷ 1 ∷ []) (0 ∷ 1 ∷ 2 ∷ []) 1 (entry 1 1 0x40) (4 ∷ 0 ∷ 0 ∷ [])) pass 4 2
+    && limited-so (finely (0 ∷ 0 ∷ 1 ∷ []) (0 ∷ 0 ∷ 1 ∷ []) 1 (entry 1 1 0x40) (4 ∷ 0 ∷ 0 ∷ [])) (broken-at 4 1 0 2 1) 4 0
+    && limited-so (finely (0 ∷ 0 ∷ 1 ∷ []) (0 ∷ 1 ∷ 2 ∷ []) 1 (entry 1 0 0) (4 ∷ 2 ∷ 4 ∷ [])) (broken-at 3 1 0 2 1) 0 0
+
+-- The class of t is asked for, and not its fine class: event 1, an output of this level, leads from 0 to 2 and from 1 to 3.
+abbrev to-class : ℕ → List ℕ
+to-class level = finely (0 ∷ 0 ∷ 1 ∷ 1 ∷ []) (0 ∷ 0 ∷ 1 ∷ 2 ∷ []) 1 (entry 1 1 level) (4 ∷ 8 ∷ 0 ∷ 0 ∷ [])
+
+abbrev class-asked : Bool
+class-asked = limited-so (to-class 0) pass 4 2 && limited-so (to-class 0x40) pass 6 2
+
+-- The limit is that of the class with most fine classes: not of the first, nor their number in all, 4, nor the 3 states of a class.
+abbrev limits : Bool
+limits =
+    limited-so (finely (0 ∷ 0 ∷ 0 ∷ 1 ∷ 1 ∷ []) (0 ∷ 1 ∷ 1 ∷ 2 ∷ 3 ∷ []) 0 [] []) pass 5 2
+    && limited-so (finely (0 ∷ 1 ∷ 1 ∷ 1 ∷ []) (0 ∷ 1 ∷ 2 ∷ 3 ∷ []) 0 [] []) pass 4 3
+    && limited-so (finely (0 ∷ 1 ∷ []) (0 ∷ 1 ∷ []) 0 [] []) pass 2 1
+    && limited-so (sample (0 ∷ 0 ∷ []) 0 [] []) pass 2 1
+    && limited-so (for-two (0 ∷ 1 ∷ 0 ∷ 0 ∷ []) 0 [] []) pass 2 1
+    && limited-so (finely (0 ∷ 0 ∷ []) (0 ∷ 2 ∷ []) 0 [] []) (refused 21) 0 0
+
+limited-parts : Bool
+unfolding limited-so
+limited-parts = latched && from-fine && class-asked && limits
+
+limited : T limited-parts
+unfolding limited-parts
+limited = tt

@@ -1,9 +1,9 @@
--- The verdict and the count as they compute, and a test of two verdicts, for tables of examples.
+-- The verdict, the count and the limit as they compute, and a test of two verdicts, for tables of examples.
 use Prim.Native.Nat.{ℕ}
 use mathlib.Core.Bool.{Bool, true, false, _&&_}
 use mathlib.Core.List.{List}
 use lib.Dec.{eqb}
-use Rattle.bounded.specs.Search.{all, first, or-else, when, count, total}
+use Rattle.bounded.specs.Search.{any, all, first, or-else, when, count, total, largest}
 use Rattle.bounded.specs.Paths.{in-steps, reaches}
 use Rattle.machine.specs.Roles.{at-level, role-of}
 use Rattle.words.specs.Sets.{bit}
@@ -11,9 +11,11 @@ use Rattle.level.specs.Level.{rank, at-or-below, low}
 use Rattle.part.specs.Record.{observer}
 use Rattle.screening.specs.Computed.{rejected-with}
 use Rattle.part.specs.Events.{kind-of}
-use Rattle.relations.specs.Relations.{role-at, leads, same-class, step-by, silent-step, reach-for, closure-sizes, rule-at}
+use Rattle.partition.specs.Classes.{same-class, is-first, fine-classes}
+use Rattle.partition.specs.Classes as partition
+use Rattle.relations.specs.Relations.{role-at, leads, step-by, silent-step, reach-for, closure-sizes, rule-at}
 use Rattle.restrictive.specs.Tests.{around, asks, answers, broken}
-use Rattle.restrictive.specs.Verdict.{Violation, Verdict, pass, refused, breaks, violation-at, state-violation, event-violation, rule-violation, violation-for, first-violation, by-rules, after-rejection, verdict, taken-by, taken}
+use Rattle.restrictive.specs.Verdict.{Violation, Verdict, pass, refused, breaks, violation-at, state-violation, event-violation, rule-violation, violation-for, first-violation, by-rules, after-rejection, verdict, taken-by, taken, limit, limit-by, told-limit}
 
 -- The verdict, computed.
 unfoldable pub judged : List ℕ → Verdict
@@ -24,6 +26,11 @@ judged b = verdict b
 unfoldable pub counted : List ℕ → ℕ
 unfolding judged taken taken-by closure-sizes total count
 counted b = taken b
+
+-- The limit that is told, computed.
+unfoldable pub told : List ℕ → ℕ
+unfolding judged told-limit limit-by limit partition.limit fine-classes is-first largest count any
+told b = told-limit b
 
 abbrev pub same-violation : Violation → Violation → Bool
 same-violation v w = eqb (v .level) (w .level) && eqb (v .rule) (w .rule) && eqb (v .event) (w .event) && eqb (v .s) (w .s) && eqb (v .t) (w .t) && eqb (v .u) (w .u)

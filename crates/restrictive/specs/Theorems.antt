@@ -8,11 +8,14 @@ use lib.ListN.{length}
 use Rattle.bounded.specs.Search.{Below, total}
 use Rattle.machine.specs.Rules.{Rule, rule-1, rule-2, rule-3, rule-4, rule-5, Restrictive, Broken}
 use Rattle.machine.specs.Noninterference.{Noninterfering}
-use Rattle.part.specs.Record.{observers, observer, states}
+use Rattle.part.specs.Record.{kind, observers, observer, states, column, fine-column}
+use Rattle.words.specs.LittleEndian.{byte}
+use Rattle.partition.specs.Theorems.{LimitOf}
+use Rattle.part.specs.Format.{limited-kind}
 use Rattle.screening.specs.Rejections.{Condition, conditions, Accepted}
 use Rattle.screening.specs.Machine.{State, machine, observation}
 use Rattle.relations.specs.Relations.{visits}
-use Rattle.restrictive.specs.Verdict.{Violation, pass, refused, breaks, verdict, taken}
+use Rattle.restrictive.specs.Verdict.{Violation, pass, refused, breaks, verdict, taken, told-limit}
 use Rattle.restrictive.specs.Earlier.{as-outputs}
 
 -- A record passes exactly if no rejection applies to it and its machine is restrictive with each of its observations, which have their own
@@ -65,10 +68,12 @@ BreaksExactly =
     (b : List ℕ) (v : Violation)
     → (verdict b ≡ breaks v) ↔ ((a : Accepted b) × Names b a v × ((w : Violation) → Names b a w → Before (in-order w) (in-order v) → ⊥))
 
--- A passing part hides its high inputs from each of its observers: generalized noninterference (demand 3, last sentence).
+-- A passing part that is not a limited one hides its high inputs from each of its observers: generalized noninterference (demand 3, last
+-- sentence; document 02, l).
 abbrev pub PassingHides : Type 0
 PassingHides =
-    (b : List ℕ) (a : Accepted b) → verdict b ≡ pass → (o : ℕ) → o < observers b → Noninterfering (machine b a) (observation b o)
+    (b : List ℕ) (a : Accepted b) → (kind b ≡ limited-kind → ⊥) → verdict b ≡ pass
+    → (o : ℕ) → o < observers b → Noninterfering (machine b a) (observation b o)
 
 -- A record that passed in the earlier reading passes (document 02, i). Document 01 treats an internal event as an output of its level, so
 -- that the earlier reading of b is the reading of b with each kind 2 made 1.
@@ -92,3 +97,13 @@ TakenExactly = (b : List ℕ) → Takes b
 -- Where it is not 0, it is at least n and at most n times n.
 abbrev pub TakenRange : Type 0
 TakenRange = (b : List ℕ) → (taken b ≡ 0) ⊎ ((states b ≤ taken b) × (taken b ≤ states b * states b))
+
+-- The limit that Check tells is the largest number of states of one class of which no two have one fine class, where the record passes, and
+-- 0 exactly where it does not. It is 1 for a passing record that is not a limited part (document 02, l).
+pub record TellsLimit (b : List ℕ) : Type 0 where
+  pub limited : verdict b ≡ pass → LimitOf (states b) (byte (column b 0)) (byte (fine-column b 0)) (told-limit b)
+  pub nothing : (told-limit b ≡ 0) ↔ (verdict b ≡ pass → ⊥)
+  pub unlimited : (kind b ≡ limited-kind → ⊥) → verdict b ≡ pass → told-limit b ≡ 1
+
+abbrev pub LimitExactly : Type 0
+LimitExactly = (b : List ℕ) → TellsLimit b

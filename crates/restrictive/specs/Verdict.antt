@@ -1,13 +1,16 @@
 -- The verdict of Check on a record (document 01, "The five rules" and "Order"; document 02, k): the rejections, then the first violation by
--- observer, in the order of the list, then by rule, event, s, t, u, each ascending. And how many states it takes up (document 02, f).
+-- observer, in the order of the list, then by rule, event, s, t, u, each ascending. How many states it takes up (document 02, f), and the limit
+-- (document 02, l).
 use Prim.Native.Nat.{ℕ, suc}
 use mathlib.Core.Bool.{_||_, cond}
 use mathlib.Core.List.{List}
 use mathlib.Core.Option.{Option, none, some}
 use lib.Dec.{eqb}
 use Rattle.bounded.specs.Search.{first, when}
-use Rattle.part.specs.Record.{observers, observer, states, events, identifier, Observer, observer-of}
+use Rattle.part.specs.Record.{observers, observer, states, events, identifier, column, fine-column, Observer, observer-of}
 use Rattle.screening.specs.Rejections.{rejection}
+use Rattle.words.specs.LittleEndian.{byte}
+use Rattle.partition.specs.Classes as partition
 use Rattle.relations.specs.Relations.{rule-at, closure-sizes}
 use Rattle.restrictive.specs.Tests.{broken}
 
@@ -67,3 +70,16 @@ taken-by b (breaks v) = cond (eqb (v .rule) 4 || eqb (v .rule) 5) (closure-sizes
 
 unfoldable pub taken : List ℕ → ℕ
 taken b = taken-by b (verdict b)
+
+-- The limit of a record: the largest number of fine classes in one class. Only a limited part, which has one observer, has more than one.
+unfoldable pub limit : List ℕ → ℕ
+limit b = partition.limit (states b) (byte (column b 0)) (byte (fine-column b 0))
+
+-- What Check tells of it: the limit where the record passes, and otherwise 0.
+unfoldable pub limit-by : List ℕ → Verdict → ℕ
+limit-by b pass = limit b
+limit-by b (refused k) = 0
+limit-by b (breaks v) = 0
+
+unfoldable pub told-limit : List ℕ → ℕ
+told-limit b = limit-by b (verdict b)

@@ -30,10 +30,11 @@ pub enum Verdict {
     Break(Violation),
 }
 
-// The answer of Check: the verdict, and how many states were taken up.
+// The answer of Check: the verdict, how many states were taken up, and the limit of a record that passes.
 pub struct Report {
     pub verdict: Verdict,
     pub taken: usize,
+    pub limit: usize,
 }
 
 // One event under one rule, for an observer: the rule counted from 0, the event's place, the observer's level.

@@ -1,10 +1,10 @@
-// Check (document 01, "The shelf"; document 02, f and k).
+// Check (document 01, "The shelf"; document 02, f, k and l).
 ghost use mathlib.Core.Path.{_≡_};
 ghost use mathlib.Core.Option.{none};
 ghost use Prim.Native.Nat.{_<_};
 ghost use Rattle.part.specs.Record.{observers, observer-of};
 ghost use Rattle.screening.specs.Rejections.{rejection};
-ghost use Rattle.restrictive.specs.Verdict.{by-rules};
+ghost use Rattle.restrictive.specs.Verdict.{by-rules, limit-by};
 ghost use Rattle.restrictive.specs.Answers.{verdict-of, Reports};
 ghost use Rattle.restrictive.specs.Found.{found-of, FindingFor, FindingIn};
 use crate::answer::Finding;
@@ -13,6 +13,7 @@ use crate::answer::Report;
 use crate::answer::Verdict;
 use crate::rules::violation_for;
 use part::Part;
+use partition::limit::limit;
 use screening::Screening;
 use screening::screen;
 
@@ -32,7 +33,12 @@ fn for_observer(b: &[u8], o: usize) -> Finding
     requires { ⌜ o < observers (now b) ⌝ }
     ensures { λ r. ⌜ FindingFor (now (b .entry)) (observer-of (now (b .entry)) o) r ⌝ }
 {
-    violation_for(b, Part::observer(b, o), Part::column(b, o))
+    violation_for(
+        b,
+        Part::observer(b, o),
+        Part::column(b, o),
+        Part::fine_column(b, o),
+    )
 }
 
 // The first violation of an accepted record, observer by observer. Where there is none, the states taken up are those of the first.
@@ -61,7 +67,22 @@ fn by_observers(b: &[u8]) -> Finding
     }
 }
 
-// The verdict on a record (the first rejection, else the first violation, else a pass), and how many states were taken up for it.
+// The limit of an accepted record in which the rules find this. Only a limited part has more than one fine class in a class.
+fn limit_by(b: &[u8], found: Found) -> usize
+    requires { ⌜ rejection (now b) ≡ none ⌝ }
+    ensures { λ r. ⌜ r ≡ limit-by (now (b .entry)) (by-rules (found-of found)) ⌝ }
+{
+    match found {
+        Found::At(_) => return 0,
+        Found::Nothing => {}
+    }
+    if Part::kind(b) != Part::LIMITED {
+        return 1;
+    }
+    limit(Part::column(b, 0), Part::fine_column(b, 0))
+}
+
+// The verdict on a record (the first rejection, else the first violation, else a pass), how many states were taken up for it, and the limit.
 pub fn check(bytes: &[u8]) -> Report
     ensures { λ r. ⌜ Reports (now (bytes .entry)) r ⌝ }
 {
@@ -70,6 +91,7 @@ pub fn check(bytes: &[u8]) -> Report
         Screening::Rejected(r) => return Report {
             verdict: Verdict::Refused(r),
             taken: 0,
+            limit: 0,
         },
         Screening::Accepted => {}
     }
@@ -78,5 +100,6 @@ pub fn check(bytes: &[u8]) -> Report
     Report {
         verdict: by_rules(found),
         taken: rules.taken,
+        limit: limit_by(bytes, found),
     }
 }

@@ -9,9 +9,11 @@ ghost use Rattle.words.specs.LittleEndian.{byte};
 ghost use Rattle.words.specs.Sets.{bit};
 ghost use Rattle.part.specs.Record.{states, events, identifier, row};
 ghost use Rattle.part.specs.Frame.{Framed};
-ghost use Rattle.relations.specs.Relations.{role-at, concerns, same-class, rule-at};
-ghost use Rattle.relations.specs.Sets.{Partition, Sound};
-ghost use Rattle.restrictive.specs.Sets.{Enabled, Offers, observer-in, Judgeable, Asked};
+ghost use Rattle.partition.specs.Classes.{same-class};
+ghost use Rattle.partition.specs.Sets.{Partition};
+ghost use Rattle.relations.specs.Relations.{role-at, concerns, rule-at};
+ghost use Rattle.relations.specs.Sets.{Sound};
+ghost use Rattle.restrictive.specs.Sets.{Enabled, Offers, observer-in, Beside, Judgeable, Asked};
 ghost use Rattle.restrictive.specs.Verdict.{violation-at, state-violation, event-violation};
 ghost use Rattle.restrictive.specs.Answers.{violation-of};
 ghost use Rattle.restrictive.specs.Found.{found-of};
@@ -39,13 +41,13 @@ fn violation(b: &[u8], case: Case, s: usize, t: usize, u: usize) -> Violation
     }
 }
 
-// u has the class of s and does not offer the class of t.
-fn unanswered(column: &[u8], s: usize, t: usize, u: usize, offers: &[u64; 64]) -> bool
+// u has the fine class of s and does not offer the class of t.
+fn unanswered(column: &[u8], fine: &[u8], s: usize, t: usize, u: usize, offers: &[u64; 64]) -> bool
     requires { ⌜ Partition (now column) ⌝ }
-    requires { ⌜ (s < length (now column)) × (t < length (now column)) × (u < length (now column)) ⌝ }
-    ensures { λ r. ⌜ r ≡ (same-class (byte (now (column .entry))) u s && not (bit (getD (now (offers .entry)) u 0) (byte (now (column .entry)) t))) ⌝ }
+    requires { ⌜ (s < length (now column)) × (t < length (now column)) × (u < length (now column)) × (length (now fine) ≡ length (now column)) ⌝ }
+    ensures { λ r. ⌜ r ≡ (same-class (byte (now (fine .entry))) u s && not (bit (getD (now (offers .entry)) u 0) (byte (now (column .entry)) t))) ⌝ }
 {
-    if le::u8_at(column, u) == le::u8_at(column, s) {
+    if le::u8_at(fine, u) == le::u8_at(fine, s) {
         return !set::contains(offers[u], le::u8_at(column, t));
     }
     false
@@ -55,22 +57,23 @@ fn unanswered(column: &[u8], s: usize, t: usize, u: usize, offers: &[u64; 64]) -
 fn first_unanswered(
     b: &[u8],
     column: &[u8],
+    fine: &[u8],
     case: Case,
     s: usize,
     t: usize,
     offers: &[u64; 64],
 ) -> Found
-    requires { ⌜ Sound (now b) (now column) ⌝ }
+    requires { ⌜ Sound (now b) (now column) (now fine) ⌝ }
     requires { ⌜ (s < states (now b)) × (t < states (now b)) ⌝ }
-    requires { ⌜ (case .event < events (now b)) × (2 ≤ case .rule) × (case .rule < 5) ⌝ }
+    requires { ⌜ (case .event < events (now b)) × (2 ≤ case .rule) × (case .rule < 5) × Beside (case .rule) (now column) (now fine) ⌝ }
     requires { ⌜ Asked (now b) (case .observer) (case .rule) (case .event) s t ⌝ }
-    requires { ⌜ Offers (now b) (observer-in (now column) case) (case .rule) (case .event) (now offers) ⌝ }
-    ensures { λ r. ⌜ found-of r ≡ first (states (now (b .entry))) (violation-at (now (b .entry)) (observer-in (now (column .entry)) case) (case .rule) (case .event) s t) ⌝ }
+    requires { ⌜ Offers (now b) (case .observer) (byte (now column)) (case .rule) (case .event) (now offers) ⌝ }
+    ensures { λ r. ⌜ found-of r ≡ first (states (now (b .entry))) (violation-at (now (b .entry)) (observer-in (now (column .entry)) (now (fine .entry)) case) (case .rule) (case .event) s t) ⌝ }
 {
     let n = Part::states(b);
     let mut u = 0;
     while u < n {
-        if unanswered(column, s, t, u, offers) {
+        if unanswered(column, fine, s, t, u, offers) {
             return Found::At(violation(b, case, s, t, u));
         }
         u += 1;
@@ -82,15 +85,16 @@ fn first_unanswered(
 fn at_target(
     b: &[u8],
     column: &[u8],
+    fine: &[u8],
     case: Case,
     s: usize,
     t: usize,
     permitted: &[u64; 64],
     offers: &[u64; 64],
 ) -> Found
-    requires { ⌜ Judgeable (now b) (now column) case (now permitted) (now offers) ⌝ }
+    requires { ⌜ Judgeable (now b) (now column) (now fine) case (now permitted) (now offers) ⌝ }
     requires { ⌜ (s < states (now b)) × (t < states (now b)) ⌝ }
-    ensures { λ r. ⌜ found-of r ≡ first (states (now (b .entry))) (violation-at (now (b .entry)) (observer-in (now (column .entry)) case) (case .rule) (case .event) s t) ⌝ }
+    ensures { λ r. ⌜ found-of r ≡ first (states (now (b .entry))) (violation-at (now (b .entry)) (observer-in (now (column .entry)) (now (fine .entry)) case) (case .rule) (case .event) s t) ⌝ }
 {
     if !set::contains(Part::row(b, case.event, s), t) {
         return Found::Nothing;
@@ -101,26 +105,27 @@ fn at_target(
     if case.rule == RULE_2 {
         return Found::At(violation(b, case, s, t, 0));
     }
-    first_unanswered(b, column, case, s, t, offers)
+    first_unanswered(b, column, fine, case, s, t, offers)
 }
 
 // The first violation at s.
 fn at_state(
     b: &[u8],
     column: &[u8],
+    fine: &[u8],
     case: Case,
     s: usize,
     permitted: &[u64; 64],
     offers: &[u64; 64],
 ) -> Found
-    requires { ⌜ Judgeable (now b) (now column) case (now permitted) (now offers) ⌝ }
+    requires { ⌜ Judgeable (now b) (now column) (now fine) case (now permitted) (now offers) ⌝ }
     requires { ⌜ s < states (now b) ⌝ }
-    ensures { λ r. ⌜ found-of r ≡ state-violation (now (b .entry)) (observer-in (now (column .entry)) case) (case .rule) (case .event) s ⌝ }
+    ensures { λ r. ⌜ found-of r ≡ state-violation (now (b .entry)) (observer-in (now (column .entry)) (now (fine .entry)) case) (case .rule) (case .event) s ⌝ }
 {
     let n = Part::states(b);
     let mut t = 0;
     while t < n {
-        let found = at_target(b, column, case, s, t, permitted, offers);
+        let found = at_target(b, column, fine, case, s, t, permitted, offers);
         match found {
             Found::At(_) => return found,
             Found::Nothing => {}
@@ -134,33 +139,35 @@ fn at_state(
 fn at_row(
     b: &[u8],
     column: &[u8],
+    fine: &[u8],
     case: Case,
     s: usize,
     to: u64,
     permitted: &[u64; 64],
     offers: &[u64; 64],
 ) -> Found
-    requires { ⌜ Judgeable (now b) (now column) case (now permitted) (now offers) ⌝ }
+    requires { ⌜ Judgeable (now b) (now column) (now fine) case (now permitted) (now offers) ⌝ }
     requires { ⌜ s < states (now b) ⌝ }
     requires { ⌜ to ≡ row (now b) (case .event) s ⌝ }
-    ensures { λ r. ⌜ found-of r ≡ state-violation (now (b .entry)) (observer-in (now (column .entry)) case) (case .rule) (case .event) s ⌝ }
+    ensures { λ r. ⌜ found-of r ≡ state-violation (now (b .entry)) (observer-in (now (column .entry)) (now (fine .entry)) case) (case .rule) (case .event) s ⌝ }
 {
     if set::intersection(to, permitted[s]) == to {
         return Found::Nothing;
     }
-    at_state(b, column, case, s, permitted, offers)
+    at_state(b, column, fine, case, s, permitted, offers)
 }
 
 // The first violation in a case of the rules 2 to 5.
 pub fn case_violation(
     b: &[u8],
     column: &[u8],
+    fine: &[u8],
     case: Case,
     permitted: &[u64; 64],
     offers: &[u64; 64],
 ) -> Found
-    requires { ⌜ Judgeable (now b) (now column) case (now permitted) (now offers) ⌝ }
-    ensures { λ r. ⌜ found-of r ≡ event-violation (now (b .entry)) (observer-in (now (column .entry)) case) (case .rule) (case .event) ⌝ }
+    requires { ⌜ Judgeable (now b) (now column) (now fine) case (now permitted) (now offers) ⌝ }
+    ensures { λ r. ⌜ found-of r ≡ event-violation (now (b .entry)) (observer-in (now (column .entry)) (now (fine .entry)) case) (case .rule) (case .event) ⌝ }
 {
     let n = Part::states(b);
     let event = case.event;
@@ -168,7 +175,7 @@ pub fn case_violation(
     let mut s = 0;
     while s < n {
         let to = Part::row_from(b, at, event, s);
-        let found = at_row(b, column, case, s, to, permitted, offers);
+        let found = at_row(b, column, fine, case, s, to, permitted, offers);
         match found {
             Found::At(_) => return found,
             Found::Nothing => {}
@@ -198,10 +205,10 @@ fn enabled(b: &[u8], i: usize) -> bool
 
 // The first violation in a case of rule 1: a state with no step.
 pub fn input_violation(b: &[u8], column: &[u8], case: Case) -> Found
-    requires { ⌜ Sound (now b) (now column) ⌝ }
+    requires { ⌜ Sound (now b) (now column) (now column) ⌝ }
     requires { ⌜ (case .event < events (now b)) × (case .rule ≡ 0) ⌝ }
     requires { ⌜ concerns (rule-at 0) (role-at (now b) (case .observer) (case .event)) ≡ true ⌝ }
-    ensures { λ r. ⌜ found-of r ≡ event-violation (now (b .entry)) (observer-in (now (column .entry)) case) 0 (case .event) ⌝ }
+    ensures { λ r. ⌜ found-of r ≡ event-violation (now (b .entry)) (observer-in (now (column .entry)) (now (column .entry)) case) 0 (case .event) ⌝ }
 {
     let event = case.event;
     if enabled(b, event) {

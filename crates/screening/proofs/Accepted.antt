@@ -10,7 +10,7 @@ use native.Mathlib.Omega.{arith}
 use Rattle.bounded.specs.Search.{or-else}
 use Rattle.bounded.proofs.Search.{true-or-false}
 use Rattle.screening.specs.Rejections.{too-short, wrong-length, wrong-kind, out-of-range, wrong-size, mislisted, misnumbered}
-use Rattle.screening.specs.Rejections.{misordered, mislabelled-part, stray-bit, Condition, frame-conditions}
+use Rattle.screening.specs.Rejections.{misrefined, misordered, mislabelled-part, stray-bit, Condition, frame-conditions}
 use Rattle.screening.specs.Rejections.{content-conditions, first-of, rejection, NoneOf, Accepted}
 
 -- ---- the first condition that holds
@@ -65,6 +65,10 @@ none-append : (cs ds : List Condition) (b : List ℕ) → NoneOf (cs ++ ds) b �
 none-append [] ds b a = tt
 none-append (c ∷ cs) ds b a = (a .0, none-append cs ds b (a .1))
 
+pub none-both : (cs ds : List Condition) (b : List ℕ) → NoneOf cs b → NoneOf ds b → NoneOf (cs ++ ds) b
+none-both [] ds b a c = c
+none-both (d ∷ cs) ds b a c = (a .0, none-both cs ds b (a .1) c)
+
 -- ---- the conditions by name
 
 pub in-frame : (b : List ℕ) → Accepted b → NoneOf frame-conditions b
@@ -92,6 +96,9 @@ module _ (b : List ℕ) (a : NoneOf frame-conditions b) where
 module _ (b : List ℕ) (a : Accepted b) where
   pub not-misnumbered : misnumbered b ≡ false
   not-misnumbered = search
+
+  pub not-misrefined : misrefined b ≡ false
+  not-misrefined = search
 
   pub not-misordered : misordered b ≡ false
   not-misordered = search

@@ -12,15 +12,15 @@ use Rattle.machine.specs.Machine.{Kind, input, output, internal}
 use Rattle.words.proofs.Sets.{same-members}
 use Rattle.words.specs.LittleEndian.{byte}
 use Rattle.part.specs.declared.format.Form.{Form}
-use Rattle.part.specs.Format.{single-kind, several-kind, max-event-kind, one-observer, several-observers}
-use Rattle.part.specs.Record.{kind, lead, form-of, observers, observer, listed-level, states, events, identifier, event-kind, level, row}
+use Rattle.part.specs.Format.{header, max-event-kind, several-observers}
+use Rattle.part.specs.Record.{kind, lead, form-of, class, observers, observer, listed-level, states, events, identifier, event-kind, level, row}
 use Rattle.screening.specs.Rejections.{Accepted}
 use Rattle.part.specs.Frame.{fields-of}
 use Rattle.part.specs.Events.{kind-of, place, event-of}
 use Rattle.screening.specs.Theorems.{Same, Extensionality}
 use Rattle.part.proofs.Rising.{Within, same-sequence}
 use Rattle.screening.proofs.Accepted.{in-frame}
-use Rattle.part.proofs.Fields.{form-one, form-several, own-columns}
+use Rattle.part.proofs.Fields.{form-one, form-several, form-limited, whose-column}
 use Rattle.screening.proofs.Rejections.{well-described}
 use Rattle.screening.proofs.Ranges.{ranges, row-lt}
 use Rattle.screening.proofs.LayoutLaws.{layout-fields, layout-cong}
@@ -94,49 +94,48 @@ module _ (a b : List ℕ) (ok : Accepted a) (ok′ : Accepted b) (same : Same a 
         same-test _ _ (Iff·trans (Iff·symm (leads-at a _ i s t placed))
         (Iff·trans (same .steps (identifier a i) s t l n) (leads-at b _ i s t placed′))))
 
--- ---- kind, first byte and list, by the observers
+-- ---- first byte and list, by the kind and the observers
 
--- Kind 1: there is one observer, the first byte is its level, and nothing is listed.
+-- Kinds 1 and 3: there is one observer, the first byte is its level, and nothing is listed.
 record OneObserver (b : List ℕ) : Type 0 where
-  kind-is : kind b ≡ single-kind
   alone : observers b ≡ 1
   first : lead b ≡ observer b 0
   unlisted : form-of b .listed ≡ 0
 
 -- Kind 2: there are at least two, the first byte is their number, and their levels are listed.
 record SeveralObservers (b : List ℕ) : Type 0 where
-  kind-is : kind b ≡ several-kind
   several : 2 ≤ observers b
   first : lead b ≡ observers b
   all-listed : form-of b .listed ≡ observers b
   list : (o : ℕ) → listed-level b o ≡ observer b o
 
+one-observer-in : (b : List ℕ) {f : Form} → form-of b ≡ f → f .observers ≡ 1 → f .levels ≡ header → f .listed ≡ 0 → OneObserver b
+unfolding lead observer
+one-observer-in b {f} form one place none = record {
+  alone = ap (λ (g : Form). g .observers) form ∙ one;
+  first = ap (λ (l : ℕ). byte b (l + 0)) (sym (ap (λ (g : Form). g .levels) form ∙ place));
+  unlisted = ap (λ (g : Form). g .listed) form ∙ none;
+}
+
 by-kind : (b : List ℕ) → Accepted b → OneObserver b ⊎ SeveralObservers b
 unfolding lead observer listed-level
 by-kind b a = ⊎-elim
-    (λ e.
-    let form : form-of b ≡ one-observer = form-one (kind b) (lead b) e in
-    inl (record {
-      kind-is = e;
-      alone = ap (λ (f : Form). f .observers) form;
-      first = ap (λ (f : Form). byte b (f .levels + 0)) (sym form);
-      unlisted = ap (λ (f : Form). f .listed) form;
-    }))
+    (λ e. inl (one-observer-in b (form-one (kind b) (lead b) e) refl refl refl))
+    (⊎-elim
     (λ w.
     let form : form-of b ≡ several-observers (lead b) = form-several (kind b) (lead b) (w .kind-is) in
     let count : observers b ≡ lead b = ap (λ (f : Form). f .observers) form in
     inr (record {
-      kind-is = w .kind-is;
       several = omega (arith, w .least);
       first = sym count;
       all-listed = ap (λ (f : Form). f .listed) form ∙ sym count;
       list = λ o. ap (λ (f : Form). byte b (f .levels + o)) (sym form);
     }))
+    (λ e. inl (one-observer-in b (form-limited (kind b) (lead b) e) refl refl refl)))
     (well-described b (in-frame b a))
 
--- What the observers say of them.
+-- What they say of them.
 record SameHead (a b : List ℕ) : Type 0 where
-  kinds : kind a ≡ kind b
   leads : lead a ≡ lead b
   lists : (o : ℕ) → o < form-of b .listed → listed-level a o ≡ listed-level b o
 
@@ -146,25 +145,36 @@ same-head a b ok ok′ counts levels = go (by-kind a ok) (by-kind b ok′)
   where
     go : OneObserver a ⊎ SeveralObservers a → OneObserver b ⊎ SeveralObservers b → SameHead a b
     go (inl x) (inl y) = record {
-      kinds = x .kind-is ∙ sym (y .kind-is);
       leads = x .first ∙ levels 0 (omega (arith, y .alone)) ∙ sym (y .first);
       lists = λ o l. absurd (omega (arith, y .unlisted));
     }
     go (inl x) (inr y) = absurd (omega (arith, x .alone, y .several))
     go (inr x) (inl y) = absurd (omega (arith, x .several, y .alone))
     go (inr x) (inr y) = record {
-      kinds = x .kind-is ∙ sym (y .kind-is);
       leads = x .first ∙ counts ∙ sym (y .first);
       lists = λ o l. x .list o ∙ levels o (omega (arith, y .all-listed)) ∙ sym (y .list o);
     }
 
+-- A column of a record is that of an observer, or its fine one.
+same-columns : (a b : List ℕ) → Accepted a → (same : Same a b) → form-of a ≡ form-of b
+    → (j s : ℕ) → j < form-of a .columns → s < states a → class a j s ≡ class b j s
+same-columns a b ok same form j s h l =
+    ⊎-elim
+    (λ k. same .classes j s k l)
+    (λ w.
+    let finer : form-of a .finer ≡ form-of b .finer = ap (λ (f : Form). f .finer) form in
+    rw (w .2) (same .fine-classes (w .0) s (w .1) l ∙ rw finer refl))
+    (whose-column a j (ranges a ok .some-observer) h)
+
 same-self : (a : List ℕ) → Same a a
 same-self a = record {
+  kinds = refl;
   observer-counts = refl;
   levels = λ o h. refl;
   counts = refl;
   starts = refl;
   classes = λ o s h l. refl;
+  fine-classes = λ o s h l. refl;
   event-maps = λ e. refl;
   steps = λ e s t h l. Iff·rfl;
 }
@@ -174,9 +184,10 @@ extensionality a b bytes bytes′ ok ok′ = (
   λ e. subst (λ (x : List ℕ). Same a x) e (same-self a),
   λ same.
       let head = same-head b a ok′ ok (sym (same .observer-counts)) (λ o l. sym (same .levels o l)) in
+      let form : form-of a ≡ form-of b = let k = same .kinds in let l = head .leads in cc in
       sym (layout-fields a bytes ok)
       ∙ sym (layout-cong (fields-of b) (fields-of a) (record {
-        kinds = head .kinds;
+        kinds = sym (same .kinds);
         leads = head .leads;
         tables = record {
           counts = sym (same .counts);
@@ -188,7 +199,7 @@ extensionality a b bytes bytes′ ok ok′ = (
           rows = λ i s h l. sym (same-row a b ok ok′ same i h s l);
         };
         lists = head .lists;
-        classes = λ o s h l. sym (same .classes o s (omega (arith, own-columns a)) l);
+        classes = λ j s h l. sym (same-columns a b ok same form j s h l);
       }))
       ∙ layout-fields b bytes′ ok′,
 )

@@ -13,7 +13,8 @@ use Rattle.bounded.proofs.Lists.{each-same}
 use Rattle.bounded.specs.Search.{each}
 use Rattle.words.specs.LittleEndian.{Bytes, byte, number, digits}
 use Rattle.words.proofs.LittleEndian.{digits-number, part-join, each-parts, bytes-part}
-use Rattle.part.specs.Format.{several-kind, one-observer, several-observers, form, lists-at, columns-at, column-at, entries-at, rows-at, body-size}
+use Rattle.part.specs.Format.{several-kind, limited-kind, one-observer, several-observers, limited-part, form, lists-at, columns-at, column-at, entries-at, rows-at, body-size}
+use Rattle.part.specs.declared.format.Form.{Form}
 use Rattle.part.specs.Record.{body-length, kind, lead, states, start, events, counts, form-of, observers, observer, listed-level}
 use Rattle.part.specs.Record.{class}
 use Rattle.part.specs.Record.{entry-at}
@@ -133,29 +134,33 @@ pub record Agree (f g : Fields) : Type 0 where
   pub lists : (o : ℕ) → o < shape g .listed → f .listed o ≡ g .listed o
   pub classes : (o s : ℕ) → o < shape g .columns → s < g .table .states → f .class o s ≡ g .class o s
 
--- The level of observer o: in kind 2 it is listed, in kind 1 it is the first byte.
+-- The level of observer o: in kind 2 it is listed, in the others it is the first byte.
 unfoldable pub level-in : Fields → ℕ → ℕ
 level-in f o = cond (eqb (f .kind) several-kind) (f .listed o) (f .lead)
 
 pub level-read : (b : List ℕ) (o : ℕ) → o < observers b → observer b o ≡ level-in (fields-of b) o
 unfolding observer form level-in lead listed-level
-level-read b o l = go (eqb (kind b) several-kind) l
+level-read b o l = go (eqb (kind b) several-kind) (eqb (kind b) limited-kind) l
   where
-    go : (t : Bool) → let f = cond t (several-observers (byte b 6)) one-observer in o < f .observers
-        → byte b (f .levels + o) ≡ cond t (byte b (lists-at + o)) (byte b 6)
-    go true l = refl
-    go false l = let e : o ≡ 0 = omega arith in rw e refl
+    go : (t u : Bool) → let f = cond t (several-observers (byte b 6)) (cond u limited-part one-observer) in
+        o < f .observers → byte b (f .levels + o) ≡ cond t (byte b (lists-at + o)) (byte b 6)
+    go true u l = refl
+    go false true l = let e : o ≡ 0 = omega arith in rw e refl
+    go false false l = let e : o ≡ 0 = omega arith in rw e refl
 
 -- Where the fields agree, so do the levels of the observers.
 pub level-agree : (f g : Fields) → Agree f g → (o : ℕ) → o < shape g .observers → level-in f o ≡ level-in g o
 unfolding level-in form
-level-agree f g w o l = rw (w .kinds, w .leads) (go (eqb (g .kind) several-kind) (w .lists o) l)
+level-agree f g w o l =
+    rw (w .kinds, w .leads) (go (eqb (g .kind) several-kind) (cond (eqb (g .kind) limited-kind) limited-part one-observer)
+    (w .lists o) l)
   where
-    go : (t : Bool) → (o < cond t (several-observers (g .lead)) one-observer .listed → f .listed o ≡ g .listed o)
-        → o < cond t (several-observers (g .lead)) one-observer .observers
+    go : (t : Bool) (other : Form)
+        → (o < cond t (several-observers (g .lead)) other .listed → f .listed o ≡ g .listed o)
+        → o < cond t (several-observers (g .lead)) other .observers
         → cond t (f .listed o) (g .lead) ≡ cond t (g .listed o) (g .lead)
-    go true h l = h l
-    go false h l = refl
+    go true other h l = h l
+    go false other h l = refl
 
 -- Pieces that agree below a count, and the count agrees.
 each-both : {n m : ℕ} {p q : ℕ → List ℕ} → n ≡ m → ((i : ℕ) → i < m → p i ≡ q i) → each n p ≡ each m q

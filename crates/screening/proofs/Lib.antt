@@ -1,6 +1,7 @@
 pub mod Accepted
 pub mod Rejections
 pub mod Strays
+pub mod Numbered
 pub mod Ranges
 pub mod Places
 pub mod LayoutLaws

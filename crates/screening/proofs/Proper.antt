@@ -1,10 +1,10 @@
 -- Fields that make an accepted record.
-use Prim.Native.Nat.{ℕ, zero, suc, _-_, _^_, _≤_, _<_}
+use Prim.Native.Nat.{ℕ, zero, suc, _+_, _-_, _^_, _≤_, _<_}
 use mathlib.Core.Path.{_≡_, refl, sym, ap, _∙_, subst}
 use mathlib.Core.Bool.{false, not}
-use mathlib.Core.Logic.{⊎-elim}
+use mathlib.Core.Logic.{inl, inr, ⊎-elim}
 use native.Mathlib.Nat.{lt-of-lt-of-le}
-use native.Mathlib.Decide.{decLe}
+use native.Mathlib.Decide.{decLe, ℕ-discrete}
 use native.Mathlib.Omega.{arith}
 use lib.ListN.{length}
 use lib.Pow.{pow-mono}
@@ -12,23 +12,26 @@ use borrow.Author.Tests.{le-ltb, lt-leb, eq-eqb}
 use Rattle.bounded.proofs.Search.{any-fails, or-then}
 use Rattle.words.specs.Sets.{exceeds}
 use Rattle.level.specs.Level.{mislabelled}
-use Rattle.part.specs.Format.{max-states, max-events, max-event-kind, header}
+use Rattle.part.specs.Format.{limited-kind, limited-part, max-states, max-events, max-event-kind, header}
 use Rattle.part.specs.Format.{body-size}
 use Rattle.part.specs.Record.{body-length, observers, observer, states, start, events, counts, form-of}
-use Rattle.part.specs.Record.{column, class, classes-below}
+use Rattle.part.specs.Record.{column, class, fine-column, classes-below}
 use Rattle.part.specs.Record.{identifier, event-kind, row}
 use Rattle.screening.specs.Rejections.{too-short, wrong-length, wrong-kind, out-of-range, wrong-size, misnumbered, misnumbered-at}
-use Rattle.screening.specs.Rejections.{unnumbered, skips-at, misordered, misordered-at, unknown-at}
+use Rattle.screening.specs.Rejections.{unnumbered, skips-at, misrefined, misordered, misordered-at, unknown-at}
 use Rattle.screening.specs.Rejections.{mislabelled-part, mislabelled-observer, mislabelled-at, stray-bit, row-strays, strays-at}
-use Rattle.screening.specs.Rejections.{falls, mislisted, frame-conditions, NoneOf, Accepted}
+use Rattle.screening.specs.Rejections.{falls, mislisted, frame-conditions, content-conditions, NoneOf, Accepted}
+use Rattle.screening.proofs.Accepted.{none-both}
 use Rattle.part.specs.Layout.{Fields, shape, counts-of, layout}
 use Rattle.part.specs.declared.format.Counts.{Counts}
 use Rattle.part.specs.declared.format.Form.{Form}
 use Rattle.part.specs.Frame.{Few, fields-of}
-use Rattle.part.proofs.Fields.{Described, form-allowed, few-rows, few-classes, level-inside, column-size}
-use Rattle.screening.proofs.Rejections.{kind-one, kind-other, no-list, last-list-test, first-counts, last-range-test, framed}
+use Rattle.part.proofs.Fields.{Described, form-allowed, few-rows, few-classes, form-limited, own-column, column-size}
+use Rattle.screening.proofs.Rejections.{kind-known, no-fine, last-fine-test, no-list, last-list-test, first-counts, last-range-test, framed}
 use Rattle.screening.proofs.Rejections.{not-falling}
-use Rattle.screening.proofs.Ranges.{class-counted}
+use Rattle.partition.specs.Sets.{Inside}
+use Rattle.partition.proofs.Refined.{crosses-not}
+use Rattle.screening.proofs.Numbered.{class-counted}
 use Rattle.screening.proofs.LayoutLaws.{Agree, level-in, level-read, level-agree}
 use Rattle.screening.proofs.ReadBack.{Fits, length-layout, read-kind, read-lead, read-counts, read-length, read-back}
 
@@ -45,6 +48,7 @@ pub record Proper (f : Fields) : Type 0 where
   pub class-first : (o : ℕ) → o < shape f .columns → f .class o 0 ≡ 0
   pub class-next : (o s : ℕ) → o < shape f .columns → suc s < f .table .states
       → (r : ℕ) × (r ≤ s) × (f .class o (suc s) ≤ suc (f .class o r))
+  pub fine-inside : f .kind ≡ limited-kind → Inside (f .table .states) (f .class 0) (f .class 1)
   pub identifiers-rise : (i : ℕ) → suc i < f .table .events → f .table .identifier i < f .table .identifier (suc i)
   pub identifier-fits : (i : ℕ) → i < f .table .events → f .table .identifier i < 65536
   pub kinds : (i : ℕ) → i < f .table .events → f .table .event-kind i ≤ max-event-kind
@@ -83,7 +87,7 @@ pub proper-fits : (f : Fields) → Proper f → Fits f
 proper-fits f p =
     let few = proper-few f p in
     record {
-      kind-fits = ⊎-elim (λ e. omega arith) (λ w. omega (arith, w .kind-is)) (p .described);
+      kind-fits = ⊎-elim (λ e. omega arith) (⊎-elim (λ w. omega (arith, w .kind-is)) (λ e. omega arith)) (p .described);
       lead-fits = p .lead-fits;
       listed-fits = p .listed-fits;
       count-fits = omega (arith, p .most-states);
@@ -119,10 +123,10 @@ module _ (f : Fields) (p : Proper f) where
   kind-right : wrong-kind (layout f) ≡ false
   kind-right =
       let read = read-kind f (proper-fits f p) in
-      ⊎-elim
-      (λ e. kind-one (layout f) (read ∙ e))
-      (λ w. kind-other (layout f) (λ e. omega (arith, w .kind-is)) ∙ ap not (eq-eqb _ _ (read ∙ w .kind-is)))
-      (p .described)
+      kind-known (layout f) (⊎-elim
+      (λ e. inl (read ∙ e))
+      (⊎-elim (λ w. inr (inl (read ∙ w .kind-is))) (λ e. inr (inr (read ∙ e))))
+      (p .described))
 
   in-range : out-of-range (layout f) ≡ false
   in-range =
@@ -170,6 +174,7 @@ module _ (f : Fields) (p : Proper f) where
       let read = read-kind f (proper-fits f p) in
       ⊎-elim
       (λ e. no-list (layout f) (λ q. omega arith))
+      (⊎-elim
       (λ w.
       let several = read ∙ w .kind-is in
       let count = first-counts (layout f) several ∙ read-lead f (proper-fits f p) in
@@ -179,21 +184,46 @@ module _ (f : Fields) (p : Proper f) where
       (λ i h.
       rw (level-back i (omega (arith, count-back)), level-back (suc i) (omega (arith, count-back)))
       (p .observers-rise i (omega (arith, count-back))))))
+      (λ e. no-list (layout f) (λ q. omega arith)))
       (p .described)
 
   frame-clear : NoneOf frame-conditions (layout f)
   frame-clear = search (long-enough, length-right, kind-right, in-range, size-right, well-listed)
 
-  numbered : misnumbered (layout f) ≡ false
-  unfolding misnumbered misnumbered-at unnumbered skips-at
-  numbered =
-      any-fails _ _
-      (λ o k.
+  numbered-column : (j : ℕ) → j < form-of (layout f) .columns → unnumbered (column (layout f) j) ≡ false
+  unfolding unnumbered skips-at
+  numbered-column j has =
       let n : states (layout f) ≡ f .table .states = agree .tables .counts in
-      let has : o < form-of (layout f) .columns = level-inside _ o (framed _ frame-clear) k .1 in
-      let here = subst (λ (w : Form). o < w .columns) form-read has in
-      let size = column-size _ o (framed _ frame-clear) has in
-      any-fails _ _ (λ s l. le-ltb _ _ (class-step o s here (omega arith))))
+      let here = subst (λ (w : Form). j < w .columns) form-read has in
+      let size = column-size _ j (framed _ frame-clear) has in
+      any-fails _ _ (λ s l. le-ltb _ _ (class-step j s here (omega arith)))
+
+  numbered : misnumbered (layout f) ≡ false
+  unfolding misnumbered misnumbered-at
+  numbered = any-fails _ _ (λ o k. numbered-column o (own-column (layout f) o k))
+
+  refined : misrefined (layout f) ≡ false
+  refined =
+      elim (ℕ-discrete (f .kind) limited-kind) [
+        | yes e ↦
+            let read = read-kind f (proper-fits f p) ∙ e in
+            let form : form-of (layout f) ≡ limited-part = form-limited _ _ read in
+            let two : 2 ≡ shape f .columns = ap (λ (w : Form). w .columns) (sym form ∙ form-read) in
+            let column-0 : (s : ℕ) → s < f .table .states → class (layout f) 0 s ≡ f .class 0 s = λ s l.
+            agree .classes 0 s (omega arith) l in
+            let column-1 : (s : ℕ) → s < f .table .states → class (layout f) 1 s ≡ f .class 1 s = λ s l.
+            agree .classes 1 s (omega arith) l in
+            let n : states (layout f) ≡ f .table .states = agree .tables .counts in
+            let fine : fine-column (layout f) 0 ≡ column (layout f) 1 = ap (λ (w : Form). column (layout f) (w .finer + 0)) form in
+            last-fine-test (layout f) read (ap unnumbered fine ∙ numbered-column 1 (rw form (omega arith)))
+            ∙ crosses-not _ _ _
+            (λ r s h l q.
+            column-0 r (omega arith)
+            ∙ p .fine-inside e r s (omega arith) (omega arith)
+            (sym (column-1 r (omega arith)) ∙ rw fine at q ∙ column-1 s (omega arith))
+            ∙ sym (column-0 s (omega arith)))
+        | no n ↦ no-fine (layout f) (λ q. n (sym (read-kind f (proper-fits f p)) ∙ q))
+      ]
 
   rising : (i : ℕ) → i < events (layout f) → falls (identifier (layout f)) i ≡ false
   rising =
@@ -241,4 +271,6 @@ module _ (f : Fields) (p : Proper f) where
       lt-leb (2 ^ states (layout f)) (row (layout f) i s) (rw (n, r) (p .rows i s (omega arith) (omega arith)))))
 
 pub proper-accepted : (f : Fields) → Proper f → Accepted (layout f)
-proper-accepted f p = search (frame-clear f p, numbered f p, ordered f p, labelled f p, no-strays f p)
+proper-accepted f p =
+    none-both frame-conditions content-conditions (layout f) (frame-clear f p)
+    (numbered f p, (refined f p, (ordered f p, (labelled f p, (no-strays f p, tt)))))

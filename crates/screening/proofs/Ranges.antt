@@ -1,9 +1,10 @@
 -- The fields of an accepted record lie in their ranges.
-use Prim.Native.Nat.{ℕ, zero, suc, _^_, _≤_, _<_}
-use mathlib.Core.Path.{_≡_}
+use Prim.Native.Nat.{ℕ, suc, _^_, _≤_, _<_}
+use mathlib.Core.Path.{_≡_, ap}
 use mathlib.Core.Bool.{false}
 use mathlib.Core.List.{List}
-use native.Mathlib.Decide.{decLe, decLt}
+use mathlib.Core.Logic.{⊎-elim}
+use native.Mathlib.Decide.{decLt, ℕ-discrete}
 use native.Mathlib.Omega.{arith}
 use lib.Dec.{T}
 use lib.ListN.{length}
@@ -15,45 +16,24 @@ use Rattle.words.specs.Sets.{bit, exceeds}
 use Rattle.words.proofs.Sets.{within-members}
 use Rattle.level.specs.Level.{mislabelled}
 use Rattle.level.proofs.Labels.{labelled}
-use Rattle.part.specs.Format.{max-event-kind}
-use Rattle.part.specs.Record.{observers, observer, states, events, form-of, column, class, classes-below, identifier, event-kind}
+use Rattle.part.specs.declared.format.Form.{Form}
+use Rattle.part.specs.Format.{limited-kind, max-event-kind}
+use Rattle.part.specs.Record.{kind, lead, columns, observers, observer, states, events, column, fine-column, identifier, event-kind}
 use Rattle.part.specs.Record.{level, row}
 use Rattle.part.specs.Frame.{Framed}
-use Rattle.screening.specs.Rejections.{Accepted, misnumbered, misnumbered-at, unnumbered, skips-at, misordered, misordered-at}
+use Rattle.screening.specs.Rejections.{Accepted, misnumbered, misnumbered-at, unnumbered, misordered, misordered-at}
 use Rattle.screening.specs.Rejections.{falls, unknown-at, mislabelled-part, mislabelled-observer, mislabelled-at, stray-bit}
 use Rattle.screening.specs.Rejections.{row-strays, strays-at}
 use Rattle.screening.specs.MachineFacts.{start-below}
-use Rattle.screening.specs.Theorems.{Ranges}
-use Rattle.screening.proofs.Accepted.{in-frame, not-misnumbered, not-misordered, not-mislabelled, not-stray}
-use Rattle.part.proofs.Fields.{own-columns, level-inside, column-size}
-use Rattle.screening.proofs.Rejections.{framed, levels-rise, rises-unless}
+use Rattle.screening.specs.Theorems.{Ranges, ObservationsRefined, ObservationsUnlimited}
+use Rattle.screening.proofs.Accepted.{in-frame, not-misnumbered, not-misrefined, not-misordered, not-mislabelled}
+use Rattle.screening.proofs.Accepted.{not-stray}
+use Rattle.partition.specs.Sets.{Inside}
+use Rattle.partition.proofs.Refined.{crosses-none}
+use Rattle.part.proofs.Fields.{form-limited, own-fine, own-columns, whose-column, column-size}
+use Rattle.screening.proofs.Rejections.{framed, levels-rise, rises-unless, fined}
+use Rattle.screening.proofs.Numbered.{class-step, class-small, largest-class}
 use Rattle.part.proofs.Rising.{Rises}
-
--- ---- the number of classes so far
-
-module _ (column : List ℕ) where
-  pub classes-monotone : (m n : ℕ) → m ≤ n → classes-below column m ≤ classes-below column n
-  unfolding classes-below
-  classes-monotone m zero h = let e : m ≡ 0 = omega arith in rw e (omega arith)
-  classes-monotone m (suc n) h =
-      elim (decLe m n) [
-        | yes l ↦ let r = classes-monotone m n l in omega arith
-        | no l ↦ let e : m ≡ suc n = omega arith in
-            rw e (omega arith)
-      ]
-
-  pub class-counted : (s n : ℕ) → s < n → byte column s < classes-below column n
-  unfolding classes-below
-  class-counted s n h = let r = classes-monotone _ n h in omega arith
-
-  -- the largest class before is the class of some state
-  pub largest-class : (s : ℕ) → (r : ℕ) × (r ≤ s) × (classes-below column (suc s) ≡ suc (byte column r))
-  unfolding classes-below
-  largest-class zero = (0, omega arith, omega arith)
-  largest-class (suc s) =
-      let before = largest-class s in
-      elim (decLe (classes-below column (suc s)) (suc (byte column (suc s))))
-      [ yes l ↦ (suc s, omega arith, omega arith) | no l ↦ (before .0, omega arith, omega arith) ]
 
 module _ (b : List ℕ) (a : Accepted b) where
   -- the record is whole, and its counts are in range
@@ -62,25 +42,39 @@ module _ (b : List ℕ) (a : Accepted b) where
 
   -- ---- the classes
 
-  -- each observer has a column, with a class for each state
-  pub has-column : (o : ℕ) → o < observers b → o < form-of b .columns
-  has-column o l = level-inside b o frame l .1
+  -- a column has a class for each state
+  pub column-length : (j : ℕ) → j < columns b → length (column b j) ≡ states b
+  column-length j l = column-size b j frame l
 
-  pub column-length : (o : ℕ) → o < observers b → length (column b o) ≡ states b
-  column-length o l = column-size b o frame (has-column o l)
+  classes-numbered : (o : ℕ) → o < observers b → unnumbered (column b o) ≡ false
+  unfolding misnumbered misnumbered-at
+  classes-numbered = any-none _ _ (not-misnumbered b a)
 
-  -- a state's class is one of those before it, or the next
-  pub class-step : (o s : ℕ) → o < observers b → s < states b → class b o s ≤ classes-below (column b o) s
-  unfolding misnumbered misnumbered-at unnumbered skips-at
-  class-step o s l h =
-      ltb-false _ _
-      (any-none _ _ (any-none _ _ (not-misnumbered b a) o l) s (omega (arith, column-length o l)))
+  -- a limited part has one observer
+  only-observer : kind b ≡ limited-kind → (o : ℕ) → o < observers b → o ≡ 0
+  only-observer e o l = let one = ap (λ (f : Form). f .observers) (form-limited (kind b) (lead b) e) in omega arith
 
-  pub classes-few : (o n : ℕ) → o < observers b → n ≤ states b → classes-below (column b o) n ≤ n
-  unfolding classes-below
-  classes-few o zero l h = omega arith
-  classes-few o (suc n) l h =
-      let before = classes-few o n l (omega arith) in let step = class-step o n l h in omega arith
+  -- no fine class stands in two classes, and the fine classes are numbered by first appearance, as the classes are
+  pub fine-inside : (o : ℕ) → o < observers b → Inside (states b) (byte (column b o)) (byte (fine-column b o))
+  fine-inside o l =
+      elim (ℕ-discrete (kind b) limited-kind) [
+        | yes e ↦ crosses-none _ _ _ (rw (only-observer e o l) (fined b e (not-misrefined b a) .inside))
+        | no n ↦ rw (own-fine b o n) (λ r s h k q. q)
+      ]
+
+  fine-numbered : (o : ℕ) → o < observers b → unnumbered (fine-column b o) ≡ false
+  fine-numbered o l =
+      elim (ℕ-discrete (kind b) limited-kind) [
+        | yes e ↦ rw (only-observer e o l) (fined b e (not-misrefined b a) .numbered)
+        | no n ↦ rw (own-fine b o n) (classes-numbered o l)
+      ]
+
+  -- so every column is
+  pub numbered : (j : ℕ) → j < columns b → unnumbered (column b j) ≡ false
+  numbered j l =
+      ⊎-elim (classes-numbered j)
+      (λ w. rw (w .2) (fine-numbered (w .0) (w .1)))
+      (whose-column b j (frame .some-observer) l)
 
   -- ---- the events
 
@@ -138,13 +132,22 @@ ranges b a = record {
   some-observer = frame b a .some-observer;
   most-observers = omega (arith, own-columns b, frame b a .narrow .columns);
   observers-rise = levels-rise b (in-frame b a);
-  class-below = λ o s l h. omega (arith, class-step b a o s l h, classes-few b a o s l (omega arith));
-  class-first = λ o l. omega (arith, class-step b a o 0 l (frame b a .one-state), classes-few b a o 0 l (omega arith));
-  class-next = λ o s l h.
-      let r = largest-class (column b o) s in (r .0, r .1, omega (arith, class-step b a o (suc s) l h));
+  class-below = λ j s l h. omega (arith, class-small _ (numbered b a j l) s (omega (arith, column-length b a j l)));
+  class-first = λ j l.
+      omega (arith, class-small _ (numbered b a j l) 0 (omega (arith, column-length b a j l, frame b a .one-state)));
+  class-next = λ j s l h.
+      let r = largest-class (column b j) s in
+      (r .0, r .1, omega (arith, class-step _ (numbered b a j l) (suc s) (omega (arith, column-length b a j l))));
+  fine-inside = λ o s t l. fine-inside b a o l s t;
   identifiers-rise = identifiers-rise b a;
   kinds = kinds b a;
   observers-labelled = λ o h. labelled _ (observer-labelled b a o h);
   events-labelled = λ i h. labelled _ (event-labelled b a i h);
   row-members = row-members b a;
 }
+
+pub observations-refined : ObservationsRefined
+observations-refined b a o l s t = fine-inside b a o l (s .0) (t .0) (s .1) (t .1)
+
+pub observations-unlimited : ObservationsUnlimited
+observations-unlimited b n o s t q = rw (own-fine b o n) q

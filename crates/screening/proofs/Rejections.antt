@@ -4,20 +4,23 @@ use mathlib.Core.Path.{_≡_, refl, sym, ap, _∙_}
 use mathlib.Core.Bool.{true, false, not, _||_}
 use mathlib.Core.Logic.{_⊎_, inl, inr, ⊎-elim}
 use mathlib.Core.List.{List}
+use native.Mathlib.Decide.{ℕ-discrete}
 use native.Mathlib.Omega.{arith}
 use lib.ListN.{length}
 use lib.Dec.{ltb, leb, eqb}
 use borrow.Author.Tests.{ltb-false, leb-false, eqb-true, eq-eqb, ne-eqb, not-false, lt-ltb, le-ltb, lt-leb}
 use Rattle.bounded.specs.Search.{any}
 use Rattle.bounded.proofs.Search.{or-left, or-right, or-then, is-true, true-or-false, any-none}
-use Rattle.part.specs.Format.{single-kind, several-kind, least-listed, max-observers, max-states, max-events, lists-at, body-size}
-use Rattle.part.specs.Record.{body-length, kind, lead, observers, observer, states, start, events, counts}
+use Rattle.words.specs.LittleEndian.{byte}
+use Rattle.partition.specs.Classes.{crosses}
+use Rattle.part.specs.Format.{single-kind, several-kind, limited-kind, least-listed, max-observers, max-states, max-events, lists-at, body-size}
+use Rattle.part.specs.Record.{body-length, kind, lead, form-of, observers, observer, states, start, events, counts, column, fine-column}
 use Rattle.part.specs.declared.format.Form.{Form}
 use Rattle.part.specs.Frame.{Framed}
-use Rattle.part.proofs.Fields.{Described, form-one, form-several, form-allowed}
+use Rattle.part.proofs.Fields.{Described, form-one, form-several, form-limited, form-allowed}
 use Rattle.part.proofs.Rising.{Rises, rises}
 use Rattle.screening.specs.Rejections.{too-short, wrong-length, wrong-kind, out-of-range, wrong-size}
-use Rattle.screening.specs.Rejections.{falls, mislisted}
+use Rattle.screening.specs.Rejections.{falls, mislisted, unnumbered, misrefined}
 use Rattle.screening.specs.Rejections.{frame-conditions, NoneOf}
 use Rattle.screening.proofs.Accepted.{not-too-short, not-wrong-length, not-wrong-kind, not-out-of-range, not-wrong-size}
 use Rattle.screening.proofs.Accepted.{not-mislisted}
@@ -84,23 +87,58 @@ module _ (b : List ℕ) where
   pub header-read : too-short b ≡ false → wrong-length b ≡ false → out-of-range b ≡ false → lists-at ≤ length b
   header-read e1 e2 e4 = let six = long e1 in let after = rest e2 in let c = ranged e4 in omega arith
 
-  -- What 3 leaves: kind 1 or kind 2.
-  pub kind-is : wrong-kind b ≡ false → (kind b ≡ single-kind) ⊎ (kind b ≡ several-kind)
+  -- What 3 leaves: kind 1, kind 2 or kind 3.
+  abbrev pub KnownKind : Type 0
+  KnownKind = (kind b ≡ single-kind) ⊎ ((kind b ≡ several-kind) ⊎ (kind b ≡ limited-kind))
+
+  pub kind-is : wrong-kind b ≡ false → KnownKind
   unfolding wrong-kind
   kind-is e =
-      ⊎-elim
-      (λ t. inl (eqb-true _ _ t))
-      (λ f. inr (eqb-true _ _ (sym (or-then _ _ f) ∙ not-false _ e)))
-      (true-or-false (eqb (kind b) single-kind))
+      elim (ℕ-discrete (kind b) single-kind) [
+        | yes t ↦ inl t
+        | no f ↦ elim (ℕ-discrete (kind b) several-kind) [
+          | yes t ↦ inr (inl t)
+          | no g ↦ inr (inr (eqb-true _ _ (sym (or-then _ _ (or-then _ _ (ne-eqb _ single-kind f) ∙ ne-eqb _ several-kind g))
+              ∙ not-false _ e)))
+        ]
+      ]
 
-  -- The tests of 3, one by one, and those of 20.
-  pub kind-one : kind b ≡ single-kind → wrong-kind b ≡ false
+  -- The tests of 3, one by one, those of 20 and those of 21.
+  pub kind-known : KnownKind → wrong-kind b ≡ false
   unfolding wrong-kind
-  kind-one e = rw (eq-eqb (kind b) single-kind e)
+  kind-known (inl e) = rw e refl
+  kind-known (inr (inl e)) = rw e refl
+  kind-known (inr (inr e)) = rw e refl
 
-  pub kind-other : (kind b ≡ single-kind → ⊥) → wrong-kind b ≡ not (eqb (kind b) several-kind)
+  pub kind-other : (kind b ≡ single-kind → ⊥) → (kind b ≡ several-kind → ⊥) → wrong-kind b ≡ not (eqb (kind b) limited-kind)
   unfolding wrong-kind
-  kind-other n = rw (ne-eqb (kind b) single-kind n)
+  kind-other n m = rw (ne-eqb (kind b) single-kind n, ne-eqb (kind b) several-kind m)
+
+  pub no-fine : (kind b ≡ limited-kind → ⊥) → misrefined b ≡ false
+  unfolding misrefined
+  no-fine n = rw (ne-eqb (kind b) limited-kind n)
+
+  module _ (e : kind b ≡ limited-kind) where
+    pub fine-unnumbered : unnumbered (fine-column b 0) ≡ true → misrefined b ≡ true
+    unfolding misrefined
+    fine-unnumbered t = rw (eq-eqb (kind b) limited-kind e, t)
+
+    pub last-fine-test : unnumbered (fine-column b 0) ≡ false
+        → misrefined b ≡ crosses (states b) (byte (column b 0)) (byte (fine-column b 0))
+    unfolding misrefined
+    last-fine-test f = rw (eq-eqb (kind b) limited-kind e, f)
+
+    -- what 21 leaves
+    pub record Fined : Type 0 where
+      pub numbered : unnumbered (fine-column b 0) ≡ false
+      pub inside : crosses (states b) (byte (column b 0)) (byte (fine-column b 0)) ≡ false
+
+    pub fined : misrefined b ≡ false → Fined
+    unfolding misrefined
+    fined f =
+        let out : (unnumbered (fine-column b 0)
+        || crosses (states b) (byte (column b 0)) (byte (fine-column b 0))) ≡ false = rw (eq-eqb (kind b) limited-kind e) at f in
+        record { numbered = or-left _ _ out; inside = or-right (unnumbered (fine-column b 0)) _ out }
 
   pub no-list : (kind b ≡ several-kind → ⊥) → mislisted b ≡ false
   unfolding mislisted
@@ -136,7 +174,7 @@ module _ (b : List ℕ) where
 
     pub several-described : least-listed ≤ observers b → observers b ≤ max-observers → Described (kind b) (lead b)
     several-described l m =
-        inr (record { kind-is = e; least = omega (arith, first-counts); most = omega (arith, first-counts) })
+        inr (inl (record { kind-is = e; least = omega (arith, first-counts); most = omega (arith, first-counts) }))
 
     -- what 20 leaves: two to four observers, whose levels rise
     record Listed : Type 0 where
@@ -186,17 +224,23 @@ module _ (b : List ℕ) (a : NoneOf frame-conditions b) where
   pub well-described : Described (kind b) (lead b)
   well-described =
       ⊎-elim inl
+      (⊎-elim
       (λ e. several-described b e (list-in-order e .least) (list-in-order e .most))
+      (λ e. inr (inr e)))
       (kind-is b (not-wrong-kind b a))
 
   -- the levels rise; that of an only observer does
   pub levels-rise : Rises (observer b) (observers b)
   levels-rise =
       ⊎-elim
-      (λ e i j l h.
-      absurd (let one = ap (λ (f : Form). f .observers) (form-one (kind b) (lead b) e) in omega arith))
+      (λ e. alone (form-one (kind b) (lead b) e) refl)
+      (⊎-elim
       (λ e. list-in-order e .up)
+      (λ e. alone (form-limited (kind b) (lead b) e) refl))
       (kind-is b (not-wrong-kind b a))
+    where
+      alone : {f : Form} → form-of b ≡ f → f .observers ≡ 1 → Rises (observer b) (observers b)
+      alone e one i j l h = absurd (let count = ap (λ (f : Form). f .observers) e in omega arith)
 
   pub framed : Framed b
   framed = framed-by b (not-too-short b a) (not-wrong-length b a) (not-out-of-range b a) (not-wrong-size b a)

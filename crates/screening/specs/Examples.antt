@@ -1,4 +1,4 @@
--- Records on which the rejections are computed: P, Z and a record of kind 2 are accepted, and each damaged record has its number. Some break
+-- Records on which the rejections are computed: P, Z and records of kinds 2 and 3 are accepted, and each damaged record has its number. Some break
 -- two conditions, so that the order counts; some stand at a limit.
 use Prim.Native.Nat.{ℕ, _+_}
 use mathlib.Core.Path.{_≡_, refl}
@@ -35,6 +35,11 @@ abbrev listing : List ℕ → List ℕ
 listing levels =
     digits 4 (4 + length levels + length levels) ++ 2 ∷ 0 ∷ length levels ∷ 1 ∷ 0 ∷ 0 ∷ [] ++ levels ++ replicate (length levels) 0
 
+-- A record of kind 3 without events, with these classes and fine classes.
+abbrev limited : List ℕ → List ℕ → List ℕ
+limited classes fine =
+    digits 4 (4 + length classes + length fine) ++ 3 ∷ 0 ∷ 0 ∷ length classes ∷ 0 ∷ 0 ∷ [] ++ classes ++ fine
+
 abbrev table : List Line
 table =
     -- accepted; 1 to 3
@@ -47,7 +52,7 @@ table =
     ∷ set (set P 0 0x2F) 4 2 is 2
     ∷ two-observers is 0
     ∷ set P 4 0 is 3
-    ∷ set P 4 3 is 3
+    ∷ set P 4 4 is 3
     ∷ set (set P 5 1) 7 0 is 3
     -- 4: no body, n = 0, n = 65 though 5 holds too, the start at n, m = 33; the limits themselves; 5
     ∷ (0 ∷ 0 ∷ 0 ∷ 0 ∷ 1 ∷ 0 ∷ []) is 4
@@ -87,6 +92,20 @@ table =
     ∷ set two-observers 15 2 is 6
     ∷ set two-observers 15 1 is 0
     ∷ set (set two-observers 11 0x00) 12 1 is 20
+    -- 21: fine classes not numbered by first appearance, though they would be as the next ones of the first column; a fine class in two
+    -- classes; but not fine classes that lie inside the classes, equal to them or not. 5 before it, and 6, which asks nothing of the fine ones.
+    ∷ set P 4 3 is 5
+    ∷ limited (0 ∷ 0 ∷ 1 ∷ 1 ∷ []) (0 ∷ 1 ∷ 2 ∷ 2 ∷ []) is 0
+    ∷ limited (0 ∷ 0 ∷ 1 ∷ 1 ∷ []) (0 ∷ 0 ∷ 1 ∷ 1 ∷ []) is 0
+    ∷ limited (0 ∷ 0 ∷ 1 ∷ 1 ∷ []) (0 ∷ 1 ∷ 2 ∷ 1 ∷ []) is 21
+    ∷ limited (0 ∷ 0 ∷ 1 ∷ 1 ∷ []) (0 ∷ 0 ∷ 0 ∷ 0 ∷ []) is 21
+    ∷ limited (0 ∷ 0 ∷ 1 ∷ 1 ∷ []) (0 ∷ 0 ∷ 2 ∷ 2 ∷ []) is 21
+    ∷ limited (0 ∷ 0 ∷ 1 ∷ 1 ∷ []) (1 ∷ 1 ∷ 0 ∷ 0 ∷ []) is 21
+    ∷ limited (0 ∷ 0 ∷ 0 ∷ 0 ∷ []) (0 ∷ 1 ∷ 0 ∷ 2 ∷ []) is 0
+    ∷ limited (0 ∷ 0 ∷ 2 ∷ 1 ∷ []) (0 ∷ 1 ∷ 2 ∷ 3 ∷ []) is 6
+    ∷ limited (0 ∷ 0 ∷ 2 ∷ 1 ∷ []) (0 ∷ 0 ∷ 0 ∷ 0 ∷ []) is 6
+    ∷ set (limited (0 ∷ 0 ∷ []) (0 ∷ 2 ∷ [])) 6 0x01 is 21
+    ∷ set (limited (0 ∷ 0 ∷ []) (0 ∷ 1 ∷ [])) 6 0x01 is 16
     ∷ set P 16 1 is 7
     ∷ set P 12 3 is 7
     ∷ set P 14 3 is 7

@@ -3,7 +3,7 @@ use Prim.Native.Nat.{ℕ, _<_}
 use mathlib.Core.List.{List}
 use Rattle.machine.specs.Machine.{Machine, Observation}
 use Rattle.level.specs.Level.{low}
-use Rattle.part.specs.Record.{observer, states, start, class}
+use Rattle.part.specs.Record.{observer, states, start, class, fine}
 use Rattle.screening.specs.Rejections.{Accepted}
 use Rattle.part.specs.Events.{event-of, Leads}
 use Rattle.screening.specs.MachineFacts.{leads-present, start-below}
@@ -21,6 +21,6 @@ machine b a = record {
   present = λ e s t. leads-present b e (s .0) (t .0);
 }
 
--- What observer o is given: which levels are low, and the class of each state.
+-- What observer o is given: which levels are low, the class of each state and its fine class.
 abbrev pub observation : (b : List ℕ) → ℕ → Observation (State b)
-observation b o = record { low = low (observer b o); class = λ s. class b o (s .0) }
+observation b o = record { low = low (observer b o); class = λ s. class b o (s .0); fine = λ s. fine b o (s .0) }

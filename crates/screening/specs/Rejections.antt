@@ -1,4 +1,4 @@
--- The rejections of a record (document 01, "Refusals out of the input", 1 to 8; document 02, d, 16, and k, 20).
+-- The rejections of a record (document 01, "Refusals out of the input", 1 to 8; document 02, d, 16, k, 20, and l, 21).
 use Prim.Native.Nat.{ℕ, zero, suc, _-_}
 use mathlib.Core.Path.{_≡_}
 use mathlib.Core.Bool.{Bool, true, false, not, _||_, _&&_}
@@ -10,8 +10,9 @@ use Rattle.bounded.specs.Search.{any}
 use Rattle.words.specs.Sets.{exceeds}
 use Rattle.words.specs.LittleEndian.{byte}
 use Rattle.level.specs.Level.{mislabelled}
-use Rattle.part.specs.Format.{max-states, max-events, single-kind, several-kind, least-listed, max-observers, max-event-kind, header, body-size}
-use Rattle.part.specs.Record.{body-length, kind, observer, states, start, events, counts, observers, column, classes-below, identifier, event-kind, level, row}
+use Rattle.partition.specs.Classes.{crosses}
+use Rattle.part.specs.Format.{max-states, max-events, single-kind, several-kind, limited-kind, least-listed, max-observers, max-event-kind, header, body-size}
+use Rattle.part.specs.Record.{body-length, kind, observer, states, start, events, counts, observers, column, fine-column, classes-below, identifier, event-kind, level, row}
 
 -- 1: fewer than six bytes.
 unfoldable pub too-short : List ℕ → Bool
@@ -21,9 +22,9 @@ too-short b = ltb (length b) header
 unfoldable pub wrong-length : List ℕ → Bool
 wrong-length b = not (eqb (body-length b) (length b - header))
 
--- 3: the kind is neither 1 nor 2.
+-- 3: the kind is none of 1, 2 and 3.
 unfoldable pub wrong-kind : List ℕ → Bool
-wrong-kind b = not (eqb (kind b) single-kind || eqb (kind b) several-kind)
+wrong-kind b = not (eqb (kind b) single-kind || eqb (kind b) several-kind || eqb (kind b) limited-kind)
 
 -- 4: the body is under four bytes, or n, the start or m is outside its range.
 unfoldable pub out-of-range : List ℕ → Bool
@@ -63,6 +64,12 @@ misnumbered-at b o = unnumbered (column b o)
 
 unfoldable pub misnumbered : List ℕ → Bool
 misnumbered b = any (observers b) (misnumbered-at b)
+
+-- 21: the kind is 3, and the fine classes are not numbered by first appearance, or one of them stands in two classes.
+unfoldable pub misrefined : List ℕ → Bool
+misrefined b =
+    eqb (kind b) limited-kind
+    && (unnumbered (fine-column b 0) || crosses (states b) (byte (column b 0)) (byte (fine-column b 0)))
 
 -- The kind of the event at place i is above 2.
 unfoldable pub unknown-at : List ℕ → ℕ → Bool
@@ -119,6 +126,7 @@ frame-conditions =
 abbrev pub content-conditions : List Condition
 content-conditions =
     record { number = 6; holds = misnumbered }
+    ∷ record { number = 21; holds = misrefined }
     ∷ record { number = 7; holds = misordered }
     ∷ record { number = 16; holds = mislabelled-part }
     ∷ record { number = 8; holds = stray-bit }

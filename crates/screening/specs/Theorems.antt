@@ -8,10 +8,12 @@ use lib.ListN.{length}
 use lib.Dec.{T}
 use Rattle.words.specs.Sets.{bit}
 use Rattle.words.specs.LittleEndian.{Bytes}
+use Rattle.machine.specs.Machine.{Refined, Unlimited}
 use Rattle.level.specs.Level.{Mislabelled}
-use Rattle.part.specs.Format.{max-states, max-events, max-observers, max-event-kind, record-size}
-use Rattle.part.specs.Record.{observers, observer, states, start, events, counts, class, identifier, event-kind, level, row}
+use Rattle.part.specs.Format.{limited-kind, max-states, max-events, max-observers, max-event-kind, record-size}
+use Rattle.part.specs.Record.{kind, columns, observers, observer, states, start, events, counts, class, fine, identifier, event-kind, level, row}
 use Rattle.screening.specs.Rejections.{Accepted}
+use Rattle.screening.specs.Machine.{observation}
 use Rattle.part.specs.Events.{place, event-of, Leads}
 
 -- The fields of a record lie in their ranges.
@@ -25,11 +27,12 @@ pub record InRange (b : List ℕ) : Type 0 where
   pub some-observer : 1 ≤ observers b
   pub most-observers : observers b ≤ max-observers
   pub observers-rise : (o p : ℕ) → o < p → p < observers b → observer b o < observer b p
-  -- for each observer classes below n, numbered by first appearance: state 0 has class 0, each later one is at most one above some class before it
-  pub class-below : (o s : ℕ) → o < observers b → s < states b → class b o s < states b
-  pub class-first : (o : ℕ) → o < observers b → class b o 0 ≡ 0
-  pub class-next :
-      (o s : ℕ) → o < observers b → suc s < states b → (r : ℕ) × (r ≤ s) × (class b o (suc s) ≤ suc (class b o r))
+  -- in each column classes below n, numbered by first appearance: state 0 has class 0, each later one is at most one above some class before it
+  pub class-below : (j s : ℕ) → j < columns b → s < states b → class b j s < states b
+  pub class-first : (j : ℕ) → j < columns b → class b j 0 ≡ 0
+  pub class-next : (j s : ℕ) → j < columns b → suc s < states b → (r : ℕ) × (r ≤ s) × (class b j (suc s) ≤ suc (class b j r))
+  -- for each observer states of one fine class have one class
+  pub fine-inside : (o s t : ℕ) → o < observers b → s < states b → t < states b → fine b o s ≡ fine b o t → class b o s ≡ class b o t
   pub identifiers-rise : (i j : ℕ) → i < j → j < events b → identifier b i < identifier b j
   pub kinds : (i : ℕ) → i < events b → event-kind b i ≤ max-event-kind
   -- neither the level of an observer nor that of an event is mislabelled
@@ -42,15 +45,26 @@ pub record Placed (b : List ℕ) : Type 0 where
   pub found : (i : ℕ) → i < events b → place b (identifier b i) ≡ some i
   pub stands : (e i : ℕ) → place b e ≡ some i → (i < events b) × (identifier b i ≡ e)
 
--- Two records say the same: observers, states, start, groupings, events and steps (demand 2, last sentence).
+-- Two records say the same: kind, observers, states, start, groupings, fine ones too, events and steps (demand 2, last sentence; document
+-- 02, l).
 pub record Same (a b : List ℕ) : Type 0 where
+  pub kinds : kind a ≡ kind b
   pub observer-counts : observers a ≡ observers b
   pub levels : (o : ℕ) → o < observers a → observer a o ≡ observer b o
   pub counts : states a ≡ states b
   pub starts : start a ≡ start b
   pub classes : (o s : ℕ) → o < observers a → s < states a → class a o s ≡ class b o s
+  pub fine-classes : (o s : ℕ) → o < observers a → s < states a → fine a o s ≡ fine b o s
   pub event-maps : (e : ℕ) → event-of a e ≡ event-of b e
   pub steps : (e s t : ℕ) → s < states a → t < states a → (Leads a e s t ↔ Leads b e s t)
+
+-- For each observer of an accepted record the fine classes lie inside the classes.
+abbrev pub ObservationsRefined : Type 0
+ObservationsRefined = (b : List ℕ) → Accepted b → (o : ℕ) → o < observers b → Refined (observation b o)
+
+-- They are the classes themselves where the kind is not 3.
+abbrev pub ObservationsUnlimited : Type 0
+ObservationsUnlimited = (b : List ℕ) → (kind b ≡ limited-kind → ⊥) → (o : ℕ) → Unlimited (observation b o)
 
 -- Accepted records lie in range.
 abbrev pub Ranges : Type 0

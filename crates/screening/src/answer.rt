@@ -9,6 +9,7 @@ pub enum Rejection {
     WrongSize,
     Mislisted,
     Misnumbered,
+    Misrefined,
     Misordered,
     Mislabelled,
     StrayBit,

@@ -6,7 +6,7 @@ ghost use Rattle.part.specs.Record.{observers, observer, states, events, identi
 ghost use Rattle.bounded.specs.Search.{any};
 ghost use Rattle.part.specs.Frame.{Framed};
 ghost use Rattle.screening.specs.Faults.{candidates, has-fault};
-ghost use Rattle.screening.specs.Rejections.{too-short, wrong-length, wrong-kind, out-of-range, wrong-size, falls, mislisted, unnumbered, misordered-at, mislabelled-part, row-strays, stray-bit, frame-conditions, content-conditions, first-of, rejection};
+ghost use Rattle.screening.specs.Rejections.{too-short, wrong-length, wrong-kind, out-of-range, wrong-size, falls, mislisted, unnumbered, misnumbered, misrefined, misordered-at, mislabelled-part, row-strays, stray-bit, frame-conditions, content-conditions, first-of, rejection};
 ghost use Rattle.screening.specs.Answers.{number-of, rejection-of};
 use crate::answer::Rejection;
 use crate::answer::Screening;
@@ -14,6 +14,7 @@ use level::Level;
 use part::Counts;
 use part::Part;
 use part::classes_with;
+use partition::classes::crosses;
 use words::le;
 use words::set;
 
@@ -41,6 +42,7 @@ impl Rejection {
             Rejection::WrongSize => 5,
             Rejection::Mislisted => 20,
             Rejection::Misnumbered => 6,
+            Rejection::Misrefined => 21,
             Rejection::Misordered => 7,
             Rejection::Mislabelled => 16,
             Rejection::StrayBit => 8,
@@ -69,7 +71,10 @@ fn wrong_kind(b: &[u8]) -> bool
     if kind == Part::SINGLE {
         return false;
     }
-    kind != Part::SEVERAL
+    if kind == Part::SEVERAL {
+        return false;
+    }
+    kind != Part::LIMITED
 }
 
 fn out_of_range(b: &[u8]) -> bool
@@ -230,6 +235,22 @@ fn mislisted(b: &[u8]) -> bool
     some_fault(b, count, Fault::FallingObserver)
 }
 
+// A fine column that is numbered by first appearance, and lies inside the classes, is asked of a limited part alone.
+fn misrefined(b: &[u8]) -> bool
+    requires { ⌜ Framed (now b) ⌝ }
+    requires { ⌜ misnumbered (now b) ≡ false ⌝ }
+    ensures { λ r. ⌜ r ≡ misrefined (now (b .entry)) ⌝ }
+{
+    if Part::kind(b) != Part::LIMITED {
+        return false;
+    }
+    let fine = Part::fine_column(b, 0);
+    if unnumbered(fine) {
+        return true;
+    }
+    crosses(Part::column(b, 0), fine)
+}
+
 fn mislabelled(b: &[u8]) -> bool
     requires { ⌜ Framed (now b) ⌝ }
     ensures { λ r. ⌜ r ≡ mislabelled-part (now (b .entry)) ⌝ }
@@ -283,6 +304,9 @@ fn screen_content(b: &[u8]) -> Screening
 {
     if some_fault(b, Part::observers(b), Fault::Misnumbered) {
         return Screening::Rejected(Rejection::Misnumbered);
+    }
+    if misrefined(b) {
+        return Screening::Rejected(Rejection::Misrefined);
     }
     if some_fault(b, Part::events(b), Fault::Misordered) {
         return Screening::Rejected(Rejection::Misordered);

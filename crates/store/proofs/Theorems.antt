@@ -66,7 +66,7 @@ module _ (n : ℕ) (s : List ℕ) (rs : List (List ℕ)) (h : Holds n s rs) wher
       rw records-are
       (let g = each-at Good rs (h .good) i l in
       let a = good-accepted (getD rs i []) g in
-      record { accepted = a; hides = passing-hides (getD rs i []) a (g .passing) })
+      record { accepted = a; hides = λ n. passing-hides (getD rs i []) a n (g .passing) })
 
 -- ---- demand 3
 

@@ -38,7 +38,7 @@ front-accepted r more accepted =
     let is-part : eqb (number 2 (r ++ more) 4) 0 ≡ false =
     ne-eqb (number 2 (r ++ more) 4) 0 (λ z.
     let none : kind r ≡ 0 = sym same-kind ∙ z in
-    ⊎-elim (λ e. omega arith) (λ e. omega arith) (kind-is r (not-wrong-kind r a))) in
+    ⊎-elim (λ e. omega arith) (⊎-elim (λ e. omega arith) (λ e. omega arith)) (kind-is r (not-wrong-kind r a))) in
     let all = length-append r more in
     rw (
       le-ltb (length (r ++ more)) 6 (omega arith),

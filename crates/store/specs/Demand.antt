@@ -5,7 +5,8 @@ use mathlib.Core.List.{List, [], _∷_, _++_, flatten}
 use lib.ListN.{length}
 use Rattle.machine.specs.Noninterference.{Noninterfering}
 use Rattle.words.specs.LittleEndian.{Bytes}
-use Rattle.part.specs.Record.{observers}
+use Rattle.part.specs.Format.{limited-kind}
+use Rattle.part.specs.Record.{kind, observers}
 use Rattle.screening.specs.Rejections.{Accepted}
 use Rattle.screening.specs.Machine.{machine, observation}
 use Rattle.store.specs.Answer.{Answer, gives, refused}
@@ -42,11 +43,12 @@ pub record Begins (xs ys : List ℕ) : Type 0 where
   pub rest : List ℕ
   pub so : xs ≡ ys ++ rest
 
--- A part hides its high inputs from each of its observers: every trace of it with k low events and every k + 1 lists
--- of its high inputs has a trace with the same low events and exactly those lists in its gaps.
+-- A part of kind 1 or 2 hides its high inputs from each of its observers: every trace of it with k low events and every
+-- k + 1 lists of its high inputs has a trace with the same low events and exactly those lists in its gaps. Of a limited
+-- part this is not said (document 02, l).
 pub record Hides (b : List ℕ) : Type 0 where
   pub accepted : Accepted b
-  pub hides : (o : ℕ) → o < observers b → Noninterfering (machine b accepted) (observation b o)
+  pub hides : (kind b ≡ limited-kind → ⊥) → (o : ℕ) → o < observers b → Noninterfering (machine b accepted) (observation b o)
 
 -- Neither 12 nor 14.
 pub record Foreseen (a : Answer) : Type 0 where
@@ -59,7 +61,7 @@ AllForeseen (a ∷ rest) = Foreseen a × AllForeseen rest
 
 -- After a first clear and the calls: the shelf begins with exactly the model's records, one behind the other, and then
 -- the end record; it is as long as it was; every answer is the model's, and none is 12 or 14; the records on the shelf
--- are the model's, and Count is their number; and every part on the shelf hides its high inputs.
+-- are the model's, and Count is their number; and every part on the shelf that is not a limited one hides its high inputs.
 pub record Meets (s : List ℕ) (calls : List Call) : Type 0 where
   pub begins : Begins (shelf-after (clear ∷ calls) s)
       (flatten (records-after (length s) (clear ∷ calls) []) ++ end-bytes)

@@ -29,6 +29,12 @@ fn other_observers(table: &Table, observer: &Observer) -> Option<String> {
     (!levels.is_empty()).then(|| row(&lines(&format!("not shown: observer {}", levels.join(", observer ")))))
 }
 
+/// What the boxes of a limited part are; nothing where they are classes alone.
+fn boxes(observer: &Observer) -> Option<String> {
+    let words = "a limited part: a box is a coarse class, a box in it a fine class";
+    observer.fine.as_ref().map(|_| row(words))
+}
+
 /// What the observer sees of an event, then the signs.
 fn legend() -> String {
     let seen = format!("<FONT COLOR=\"{SEEN}\">━━━━ seen: low input, low output</FONT>");
@@ -42,6 +48,7 @@ pub fn caption(table: &Table, observer: &Observer, title: &str, verdict: Option<
     let level = observer.level.text_and_byte();
     let mut rows = row(&format!("<B>{}</B>, observer {}", escaped(title), escaped(&level)));
     rows.extend(other_observers(table, observer));
+    rows.extend(boxes(observer));
     if let Some(verdict) = verdict {
         rows.push_str(&verdict_row(table, observer, verdict));
     }

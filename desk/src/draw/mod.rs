@@ -70,6 +70,7 @@ fn settings(caption: &str) -> Vec<String> {
 #[cfg(test)]
 mod tests {
     use super::*;
+    use crate::part::groups;
     use crate::random::{self, Rng};
     use crate::{reader, verdict};
 
@@ -281,25 +282,104 @@ event 3 internal rank 0 compartments none
         assert_eq!(shown(&part, Some(Level(0x82)), None), Err(none.to_string()));
     }
 
+    /// The table as a limited part: c shares the class of a and b, but not their fine class.
+    fn limited() -> String {
+        TABLE.replace("classes {a b} {c}", "classes {a b c}\nfine {c} {b a}")
+    }
+
+    /// The lines from the one with this beginning to the end of its box.
+    fn within<'a>(dot: &'a str, beginning: &str) -> Vec<&'a str> {
+        let mut lines = dot.lines().skip_while(|line| !line.trim_start().starts_with(beginning));
+        let first = lines.next().unwrap_or_else(|| panic!("no {beginning} in\n{dot}"));
+        let indentation = &first[..first.len() - first.trim_start().len()];
+        lines.take_while(|line| *line != format!("{indentation}}}")).collect()
+    }
+
+    #[test]
+    fn fine_classes_are_boxes_in_those_of_the_coarse_ones() {
+        let dot = drawn(&limited(), None);
+        let coarse = within(&dot, "subgraph cluster_0 {");
+        assert!(coarse[0].contains("label=\"coarse class 0\""));
+        let inner: Vec<&str> = coarse.iter().filter(|line| line.contains("subgraph")).map(|line| line.trim()).collect();
+        assert_eq!(inner, ["subgraph cluster_fine_0 {", "subgraph cluster_fine_1 {"]);
+        let fine = within(&dot, "subgraph cluster_fine_0 {");
+        assert!(fine[0].contains("label=\"fine class 0\"") && fine[1].contains("fillcolor=\"#dcdcdc\""));
+        assert!(fine[2].starts_with("      s0 [") && fine[3].starts_with("      s1 [") && fine.len() == 4);
+        let fine = within(&dot, "subgraph cluster_fine_1 {");
+        assert!(fine[0].contains("label=\"fine class 1\"") && fine[2].starts_with("      s2 [") && fine.len() == 3);
+        assert_eq!(cluster_count(&dot), 3);
+        let caption = line(&dot, "graph [label=<");
+        assert!(caption.contains("a limited part: a box is a coarse class, a box in it a fine class</TD>"));
+    }
+
+    /// Also where the fine classes are the classes.
+    #[test]
+    fn only_a_limited_part_has_boxes_in_boxes() {
+        let equal = drawn(&TABLE.replace("{a b} {c}\n", "{a b} {c}\nfine {a b} {c}\n"), None);
+        assert_eq!(cluster_count(&equal), 4);
+        for dot in [drawn(TABLE, Some("pass")), drawn(&watched(), Some("pass"))] {
+            assert!(!dot.contains("fine") && !dot.contains("coarse") && !dot.contains("limit"));
+        }
+    }
+
+    /// A pass is told with the limit and with what it does not promise.
+    #[test]
+    fn a_pass_of_a_limited_part() {
+        let dot = drawn(&limited(), Some("pass"));
+        let caption = line(&dot, "graph [label=<").replace("<BR/>", " ");
+        let words =
+            "<B>The verdict given: pass, as a limited part. The limit is 2: no coarse class has more fine classes \
+                     than that. That it hides high inputs is not promised.</B>";
+        assert!(caption.contains(words), "{caption}");
+        assert!(!drawn(&limited(), None).contains("The limit is"));
+    }
+
+    /// The note of a missing step is in the fine box of its state.
+    #[test]
+    fn a_break_of_a_limited_part() {
+        let dot = drawn(&limited(), Some("rule 5 event 2 from 0 to 1 other 1"));
+        let fine = within(&dot, "subgraph cluster_fine_0 {");
+        assert!(fine[4].contains("missing [") && fine[4].contains("✗ no answer to !2"));
+        let caption = line(&dot, "graph [label=<").replace("<BR/>", " ");
+        assert!(
+            caption.contains("is in the fine class of s, and") && caption.contains("t's coarse class."),
+            "{caption}"
+        );
+    }
+
     /// Is this line an edge between two states?
     fn is_step(line: &str) -> bool {
         let from = line.strip_prefix("  s").is_some_and(|rest| rest.starts_with(|c: char| c.is_ascii_digit()));
         from && line.contains(" -> s")
     }
 
-    /// An edge for each two states with a step, a node for each state, a cluster for each class.
+    /// Is this line the node of a state, so far in?
+    fn is_state(line: &str, indentation: usize) -> bool {
+        let node = line.trim_start();
+        line.len() - node.len() == indentation
+            && node.starts_with('s')
+            && node[1..].starts_with(|c: char| c.is_ascii_digit())
+    }
+
+    /// An edge for each two states with a step, a node for each state, a cluster for each class and fine class.
     #[test]
     fn random_parts_have_all_their_pieces() {
         let mut rng = Rng::new(6);
         for _ in 0..300 {
-            let part = random::part(&mut rng);
-            let dot = draw(&Table::unnamed(part.clone()), &part.observers[0], "x", None);
+            let part = random::any(&mut rng);
+            let observer = &part.observers[0];
+            let dot = draw(&Table::unnamed(part.clone()), observer, "x", None);
             let count = |test: fn(&str) -> bool| dot.lines().filter(|line| test(line)).count();
             let n = part.states;
             let pairs = (0..n * n).filter(|i| part.events.iter().any(|event| event.leads(i / n, i % n))).count();
             assert_eq!(count(is_step), pairs);
-            assert_eq!(count(|line| line.starts_with("    s")), n);
-            assert_eq!(count(|line| line.contains("subgraph cluster_")), part.observers[0].groups().len());
+            let classes = groups(&observer.classes).len();
+            let fine = observer.fine.as_ref().map_or(0, |fine| groups(fine).len());
+            let deep = observer.fine.is_some() as usize * n;
+            assert_eq!([count(|line| is_state(line, 4)), count(|line| is_state(line, 6))], [n - deep, deep]);
+            assert_eq!(count(|line| line.starts_with("  subgraph cluster_")), classes);
+            assert_eq!(count(|line| line.starts_with("    subgraph cluster_fine_")), fine);
+            assert_eq!(count(|line| line.contains("subgraph")), classes + fine);
         }
     }
 }

@@ -67,8 +67,8 @@ returns-3 c =
     let branch = tell .before .before .before in
     let report = branch .before .before .check in
     let passing = sym (report .ensures .verdict) ∙ ap verdict-of (branch .enum-told2 .given .1) in
-    told _ _ (0 ∷ 0 ∷ 0 ∷ 0 ∷ 0 ∷ report .result .taken ∷ 0 ∷ 1 ∷ []) (sym (report .ensures .verdict))
-    (of-pass _ passing (report .ensures .taken)) (tell .tell2 .ensures .0) (tell .tell2 .ensures .1)
+    told _ _ (0 ∷ 0 ∷ 0 ∷ 0 ∷ 0 ∷ report .result .taken ∷ 0 ∷ report .result .limit ∷ []) (sym (report .ensures .verdict))
+    (of-pass _ passing (report .ensures .taken) (report .ensures .limit)) (tell .tell2 .ensures .0) (tell .tell2 .ensures .1)
 
 pub explain-spec : {M : Type 1} → statement M
 explain-spec = tie.close (tie.spec check-requires enum-told enum-known-verdict cast-level tell-requires

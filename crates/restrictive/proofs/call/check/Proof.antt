@@ -36,12 +36,16 @@ by-observers-requires c κs = accepted c
 by-rules-requires : tie.Need-by-rules-requires
 by-rules-requires c κs = search needs
 
+limit-by-requires : tie.Need-limit-by-requires
+limit-by-requires c κs = accepted (c .before .before)
+
 returns-2 : tie.Need-returns-2
 returns-2 c =
-    let rules = c .before in
+    let rules = c .before .before in
     let found = rules .by-observers in
-    reports-rules _ (found .result) (accepted (rules .before)) (found .ensures) (c .by-rules .ensures)
+    reports-rules _ (found .result) (accepted (rules .before)) (found .ensures) (c .before .by-rules .ensures) _
+    (c .limit-by .ensures)
 
 pub check-spec : {M : Type 1} → statement M
 check-spec = tie.close (tie.spec screen-requires enum-known-screened returns enum-told by-observers-requires
-    by-rules-requires returns-2)
+    by-rules-requires limit-by-requires returns-2)

@@ -10,7 +10,7 @@ mul-intersection : tie.Need-mul-intersection
 mul-intersection c = search needs
 
 element-copy-out-intersection : tie.Need-element-copy-out-intersection
-element-copy-out-intersection c = let pre = c .before .before .pre in omega (arith, pre .0 .sound .framed .few .most-states)
+element-copy-out-intersection c = let pre = c .before .before .before .pre in omega (arith, pre .0 .sound .framed .few .most-states)
 
 intersection-requires : tie.Need-intersection-requires
 intersection-requires c κs = search needs
@@ -18,12 +18,12 @@ intersection-requires c κs = search needs
 returns : tie.Need-returns
 unfolding found-of
 returns c =
-    let start = c .before .before .before .before .before in
-    sym (all-permitted _ _ _ _ _ (start .pre .0) _ _ (start .pre .1 .0) (start .pre .1 .1)
+    let start = c .before .before .before .before .before .before in
+    sym (all-permitted _ _ _ _ _ _ (start .pre .0) _ _ (start .pre .1 .0) (start .pre .1 .1)
     (sym (c .before .intersection .ensures) ∙ c .if1 .taken))
 
 at-state-requires : tie.Need-at-state-requires
-at-state-requires c κs = let pre = c .before .before .before .before .before .pre in (pre .0, pre .1 .0)
+at-state-requires c κs = let pre = c .before .before .before .before .before .before .pre in (pre .0, pre .1 .0)
 
 returns-2 : tie.Need-returns-2
 returns-2 c = search needs

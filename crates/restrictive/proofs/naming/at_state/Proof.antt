@@ -14,22 +14,22 @@ use Rattle.restrictive.proofs.naming.at_state.Statement.{statement}
 use Rattle.restrictive.proofs.naming.at_state.Tie as tie
 
 abbrev Inv-loop : tie.InvT-loop
-Inv-loop b column case s permitted offers n t₀ t =
-    (t ≤ n) × (first t (λ v. first (states b) (violation-at b (observer-in column case) (case .rule) (case .event) s v))
+Inv-loop b column fine case s permitted offers n t₀ t =
+    (t ≤ n) × (first t (λ v. first (states b) (violation-at b (observer-in column fine case) (case .rule) (case .event) s v))
     ≡ none)
 
 abbrev μ-loop : tie.MeasureT-loop
-μ-loop b column case s permitted offers n t₀ t = n - t
+μ-loop b column fine case s permitted offers n t₀ t = n - t
 
 states-requires : tie.Need-states-requires Inv-loop μ-loop
-states-requires c κs = let f = c .before .before .pre .0 .sound .framed .whole in omega arith
+states-requires c κs = let f = c .before .before .before .pre .0 .sound .framed .whole in omega arith
 
 loop-holds : tie.Need-loop-holds Inv-loop μ-loop
 unfolding first
 loop-holds c = (omega arith, refl)
 
 at-target-requires : tie.Need-at-target-requires Inv-loop μ-loop
-at-target-requires c κs = let pre = c .before .before .before .before .before .pre in (pre .0, (pre .1, omega arith))
+at-target-requires c κs = let pre = c .before .before .before .before .before .before .pre in (pre .0, (pre .1, omega arith))
 
 enum-told : tie.Need-enum-told Inv-loop μ-loop
 enum-told c = search needs

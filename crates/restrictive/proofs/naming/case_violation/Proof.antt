@@ -13,29 +13,29 @@ use Rattle.restrictive.proofs.naming.case_violation.Statement.{statemen
 use Rattle.restrictive.proofs.naming.case_violation.Tie as tie
 
 abbrev Inv-loop : tie.InvT-loop
-Inv-loop b column case permitted offers n event at s₀ s =
-    (s ≤ n) × (first s (state-violation b (observer-in column case) (case .rule) (case .event)) ≡ none)
+Inv-loop b column fine case permitted offers n event at s₀ s =
+    (s ≤ n) × (first s (state-violation b (observer-in column fine case) (case .rule) (case .event)) ≡ none)
 
 abbrev μ-loop : tie.MeasureT-loop
-μ-loop b column case permitted offers n event at s₀ s = n - s
+μ-loop b column fine case permitted offers n event at s₀ s = n - s
 
 states-requires : tie.Need-states-requires Inv-loop μ-loop
-states-requires c κs = let f = c .before .before .pre .sound .framed .whole in omega arith
+states-requires c κs = let f = c .before .before .before .pre .sound .framed .whole in omega arith
 
 rows-requires : tie.Need-rows-requires Inv-loop μ-loop
-rows-requires c κs = let pre = c .before .before .before .pre in (pre .sound .framed, pre .placed)
+rows-requires c κs = let pre = c .before .before .before .before .pre in (pre .sound .framed, pre .placed)
 
 loop-holds : tie.Need-loop-holds Inv-loop μ-loop
 unfolding first
 loop-holds c = (omega arith, refl)
 
 row-from-requires : tie.Need-row-from-requires Inv-loop μ-loop
-row-from-requires c κs = let pre = c .before .before .before .before .before .before .pre in
+row-from-requires c κs = let pre = c .before .before .before .before .before .before .before .pre in
     (pre .sound .framed, (pre .placed, (omega arith, c .before .before .rows .ensures)))
 
 at-row-requires : tie.Need-at-row-requires Inv-loop μ-loop
 at-row-requires c κs =
-    (c .before .before .before .before .before .before .before .pre, (omega arith, c .row-from .ensures))
+    (c .before .before .before .before .before .before .before .before .pre, (omega arith, c .row-from .ensures))
 
 enum-told : tie.Need-enum-told Inv-loop μ-loop
 enum-told c = search needs

@@ -10,16 +10,16 @@ use Rattle.restrictive.specs.Found.{found-of}
 use Rattle.restrictive.specs.Sets.{observer-in}
 use Rattle.restrictive.specs.Tests.{broken}
 use Rattle.restrictive.specs.Verdict.{violation-at}
-use Rattle.restrictive.proofs.Offers.{broken-by-set, violated, not-violated}
+use Rattle.restrictive.proofs.Offers.{broken-by-set, beside-fine, violated, not-violated}
 use Rattle.restrictive.proofs.naming.first_unanswered.Statement.{statement}
 use Rattle.restrictive.proofs.naming.first_unanswered.Tie as tie
 
 abbrev Inv-loop : tie.InvT-loop
-Inv-loop b column case s t offers n u₀ u =
-    (u ≤ n) × (first u (violation-at b (observer-in column case) (case .rule) (case .event) s t) ≡ none)
+Inv-loop b column fine case s t offers n u₀ u =
+    (u ≤ n) × (first u (violation-at b (observer-in column fine case) (case .rule) (case .event) s t) ≡ none)
 
 abbrev μ-loop : tie.MeasureT-loop
-μ-loop b column case s t offers n u₀ u = n - u
+μ-loop b column fine case s t offers n u₀ u = n - u
 
 states-requires : tie.Need-states-requires Inv-loop μ-loop
 states-requires c κs = omega arith
@@ -30,22 +30,24 @@ loop-holds c = (omega arith, refl)
 
 unanswered-requires : tie.Need-unanswered-requires Inv-loop μ-loop
 unanswered-requires c κs =
-    (c .before .before .before .before .before .pre .0 .partition, (omega arith, omega arith, omega arith))
+    let sound = c .before .before .before .before .before .before .pre .0 in
+    (sound .partition, (omega arith, omega arith, omega arith, sound .fine-sized ∙ sym (sound .sized)))
 
 -- the test of the code is the rule's
-tested : (c : tie.After-unanswered Inv-loop μ-loop) → let start = c .before .before .before .before .before .before in
-    let a = start .args in let o = observer-in (now (a .column)) (a .case) in
+tested : (c : tie.After-unanswered Inv-loop μ-loop) → let start = c .before .before .before .before .before .before .before in
+    let a = start .args in let o = observer-in (now (a .column)) (now (a .fine)) (a .case) in
     broken (now (a .b)) o (rule-at (a .case .rule)) (a .case .event) (a .s) (a .t) (c .before .before .loop .u)
     ≡ c .unanswered .result
 tested c =
-    let start = c .before .before .before .before .before .before in
+    let start = c .before .before .before .before .before .before .before in
     let pre = start .pre in
-    broken-by-set _ _ _ _ _ _ _ (now (start .args .offers)) (pre .1 .1 .0 .1) (pre .1 .1 .0 .2)
+    let rule = pre .1 .1 .0 in
+    broken-by-set _ _ _ _ _ _ _ (now (start .args .offers)) (rule .1) (rule .2)
     (pre .1 .1 .1 .0) (pre .1 .1 .1 .1) (omega arith)
-    ∙ sym (c .unanswered .ensures)
+    ∙ rw (beside-fine _ _ _ _ (rule .1) (rule .2) (rule .3)) (sym (c .unanswered .ensures))
 
 violation-requires : tie.Need-violation-requires Inv-loop μ-loop
-violation-requires c κs = let pre = c .before .before .before .before .before .before .before .pre in
+violation-requires c κs = let pre = c .before .before .before .before .before .before .before .before .pre in
     (pre .0 .framed, (pre .1 .1 .0 .0, pre .1 .1 .0 .2))
 
 returns : tie.Need-returns Inv-loop μ-loop

@@ -14,7 +14,7 @@ use Rattle.restrictive.proofs.naming.input_violation.Tie as tie
 
 abbrev Inv-loop : tie.InvT-loop
 Inv-loop b column case event s₀ s =
-    (s ≤ length column) × (first s (state-violation b (observer-in column case) 0 (case .event)) ≡ none)
+    (s ≤ length column) × (first s (state-violation b (observer-in column column case) 0 (case .event)) ≡ none)
 
 abbrev μ-loop : tie.MeasureT-loop
 μ-loop b column case event s₀ s = length column - s

@@ -4,7 +4,7 @@ use native.Mathlib.Omega.{arith}
 use borrow.Author.Needs.{needs}
 use borrow.Author.Tests.{eq-eqb, ne-eqb}
 use Rattle.bounded.proofs.Search.{and-now, and-never}
-use Rattle.relations.specs.Relations.{same-class}
+use Rattle.partition.specs.Classes.{same-class}
 use Rattle.restrictive.proofs.naming.unanswered.Statement.{statement}
 use Rattle.restrictive.proofs.naming.unanswered.Tie as tie
 
@@ -24,7 +24,7 @@ u8-at-requires-3 : tie.Need-u8-at-requires-3
 u8-at-requires-3 c κs = search needs
 
 contains-requires : tie.Need-contains-requires
-contains-requires c κs = let start = c .before .before .before .before .before .before in
+contains-requires c κs = let start = c .before .before .before .before .before .before .before in
     omega (arith, start .pre .0 .below (start .args .t) (omega arith))
 
 returns : tie.Need-returns

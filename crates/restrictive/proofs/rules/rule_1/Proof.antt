@@ -11,7 +11,7 @@ use Rattle.restrictive.proofs.rules.rule_1.Statement.{statement}
 use Rattle.restrictive.proofs.rules.rule_1.Tie as tie
 
 abbrev Inv-loop : tie.InvT-loop
-Inv-loop b observer column inputs rest₀ rest = Open b (observing observer column) 0 inputs rest
+Inv-loop b observer column inputs rest₀ rest = Open b (observing observer column column) 0 inputs rest
 
 abbrev μ-loop : tie.MeasureT-loop
 μ-loop b observer column inputs rest₀ rest = rest
@@ -26,7 +26,7 @@ lowest-requires c κs = tt
 
 -- the event that is looked at
 event : (c : tie.After-lowest Inv-loop μ-loop) → let a = c .before .before .before .before .before .args in
-    Next (now (a .b)) (observing (a .observer) (now (a .column))) 0 (a .inputs) (c .before .before .loop .rest)
+    Next (now (a .b)) (observing (a .observer) (now (a .column)) (now (a .column))) 0 (a .inputs) (c .before .before .loop .rest)
     (c .lowest .result)
 event c =
     let loop = c .before .before in

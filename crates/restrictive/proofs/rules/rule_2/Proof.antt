@@ -1,4 +1,4 @@
-use mathlib.Core.Path.{sym}
+use mathlib.Core.Path.{refl, sym}
 use native.Mathlib.Omega.{arith}
 use borrow.Author.Needs.{needs}
 use Rattle.restrictive.specs.Found.{found-of}
@@ -22,7 +22,7 @@ same-for-events-requires c κs =
     let mates = c .before .before .class-mates in
     let made = rw (start .pre .0 .sized) at (mates .ensures) in
     let kept = mates-permitted _ _ _ made in
-    (start .pre .0, ((omega arith, omega arith), (start .pre .1, (kept, λ h. absurd (omega arith)))))
+    (start .pre .0, ((omega arith, omega arith, λ e. refl), (start .pre .1, (kept, λ h. absurd (omega arith)))))
 
 returns-2 : tie.Need-returns-2
 returns-2 c = search needs

@@ -1,8 +1,10 @@
-use mathlib.Core.Path.{refl}
+use mathlib.Core.Path.{refl, _∙_}
 use native.Mathlib.Omega.{arith}
 use borrow.Author.Needs.{needs}
 use Rattle.bounded.proofs.Search.{true-not-false}
+use Rattle.restrictive.proofs.Offers.{coarse-rule}
 use Rattle.restrictive.proofs.OfferArrays.{direct-led}
+use Rattle.restrictive.proofs.Verdicts.{coarsely}
 use Rattle.restrictive.proofs.Scans.{nothing-more}
 use Rattle.restrictive.proofs.Taken.{finds-early}
 use Rattle.restrictive.proofs.rules.rules_from_3.Statement.{statement}
@@ -16,15 +18,15 @@ element-copy-out-inputs c = search needs
 
 by-event-requires : tie.Need-by-event-requires
 by-event-requires c κs =
-    let start = c .before .before .before .before .before .before .before .before in
+    let start = c .before .before .before .before .before .before .before .before .before in
     let sound = start .pre .0 in
     let labels = c .before .before .before .before .before .class-of in
     let led =
-    direct-led _ _ (sound .framed) (sound .within)
+    direct-led _ _ _ (sound .framed) (sound .within)
     (labels .result) (rw (sound .sized) at (labels .ensures)) in (
-      sound,
+      coarsely sound,
       (
-        (omega arith, omega arith),
+        (omega arith, omega arith, λ e. refl),
         (start .pre .1 .0 2 (omega arith), (λ e. led, λ e. absurd (true-not-false e refl))),
       ),
     )
@@ -35,8 +37,8 @@ enum-told c = search needs
 returns : tie.Need-returns
 returns c =
     let three = c .before .before in
-    finds-early _ _ 2 (omega arith) (three .by-event .ensures)
-    (three .before .before .before .before .before .before .before .before .before .pre .1 .1) (c .enum-told .given .1)
+    finds-early _ _ 2 (omega arith) (three .by-event .ensures ∙ coarse-rule _ _ 2 (omega arith))
+    (three .before .before .before .before .before .before .before .before .before .before .pre .1 .1) (c .enum-told .given .1)
 
 enum-told-2 : tie.Need-enum-told-2
 enum-told-2 c = search needs
@@ -46,8 +48,8 @@ rules-from-4-requires c κs =
     let told = c .before .before .before in
     let three = told .before .before in
     let made = three .before .before .before .before .before .before in
-    let pre = made .before .before .before .pre in
-    let none = nothing-more _ 2 _ (three .by-event .ensures) (pre .1 .1) (told .enum-told2 .given .1) in
+    let pre = made .before .before .before .before .pre in
+    let none = nothing-more _ 2 _ (three .by-event .ensures ∙ coarse-rule _ _ 2 (omega arith)) (pre .1 .1) (told .enum-told2 .given .1) in
     (pre .0, (pre .1 .0, (made .class-of .ensures, none)))
 
 returns-2 : tie.Need-returns-2

@@ -23,15 +23,15 @@ element-copy-out-outputs c = search needs
 by-event-requires : tie.Need-by-event-requires
 by-event-requires c κs =
     let test = c .before .before in
-    let start = test .before .before .before .before .before in
+    let start = test .before .before .before .before .before .before in
     let sound = start .pre .0 in
     let alone =
-    direct-alone _ _ (sound .framed) (sound .within) _
+    direct-alone _ _ _ (sound .framed) (sound .within) _
     (start .pre .1 .0 3 (omega arith)) (test .if1 .taken) (now (start .args .labels))
     (rw (sound .sized) at (start .pre .1 .1 .0)) in (
       sound,
       (
-        (omega arith, omega arith),
+        (omega arith, omega arith, λ e. absurd (omega arith)),
         (start .pre .1 .0 4 (omega arith), (λ e. alone, λ e. absurd (true-not-false e refl))),
       ),
     )
@@ -40,7 +40,7 @@ returns : tie.Need-returns
 unfolding violation-for
 returns c =
     let test = c .before .before .before in
-    let start = test .before .before .before .before .before in
+    let start = test .before .before .before .before .before .before in
     let of = start .pre .1 .0 3 (omega arith) in
     let four = unspoken _ _ _ _ (omega arith) of (test .if1 .taken) in
     finds-late _ _ (start .pre .1 .1 .1)
@@ -55,7 +55,7 @@ closures-requires c κs = search needs
 with-closures-requires : tie.Need-with-closures-requires
 with-closures-requires c κs =
     let made = c .before .before .before .before in
-    let pre = made .before .before .before .before .before .before .pre in
+    let pre = made .before .before .before .before .before .before .before .pre in
     let closed =
     closure-reach _ _ _ (pre .1 .0 3 (omega arith)) (made .closures .result .sets)
     (made .closures .ensures .sets .words) in
@@ -64,7 +64,7 @@ with-closures-requires c κs =
 returns-2 : tie.Need-returns-2
 returns-2 c =
     let made = c .before .before .before .before .before in
-    let pre = made .before .before .before .before .before .before .pre in
+    let pre = made .before .before .before .before .before .before .before .pre in
     finds-late _ _ (pre .1 .1 .1) (c .with-closures .ensures)
     (made .closures .ensures .sizes ∙ closure-total _ _ _ (pre .1 .0 3 (omega arith)))
 

@@ -9,28 +9,28 @@ use Rattle.restrictive.proofs.rules.same_for_events.Statement.{statemen
 use Rattle.restrictive.proofs.rules.same_for_events.Tie as tie
 
 abbrev Inv-loop : tie.InvT-loop
-Inv-loop b observer column rule concerned permitted offers rest₀ rest =
-    Open b (observing observer column) rule concerned rest
+Inv-loop b observer column fine rule concerned permitted offers rest₀ rest =
+    Open b (observing observer column fine) rule concerned rest
 
 abbrev μ-loop : tie.MeasureT-loop
-μ-loop b observer column rule concerned permitted offers rest₀ rest = rest
+μ-loop b observer column fine rule concerned permitted offers rest₀ rest = rest
 
 loop-holds : tie.Need-loop-holds Inv-loop μ-loop
 loop-holds c =
-    let start = c .before .before in
+    let start = c .before .before .before in
     open-all (record { last = start .pre .1 .0 .1; of = start .pre .1 .1 .0 }) (start .fits .concerned .fits)
 
 lowest-requires : tie.Need-lowest-requires Inv-loop μ-loop
 lowest-requires c κs = tt
 
 -- the event that is looked at
-event : (c : tie.After-lowest Inv-loop μ-loop) → let a = c .before .before .before .before .before .args in
-    Next (now (a .b)) (observing (a .observer) (now (a .column))) (a .rule) (a .concerned)
+event : (c : tie.After-lowest Inv-loop μ-loop) → let a = c .before .before .before .before .before .before .args in
+    Next (now (a .b)) (observing (a .observer) (now (a .column)) (now (a .fine))) (a .rule) (a .concerned)
     (c .before .before .loop .rest)
     (c .lowest .result)
 event c =
     let loop = c .before .before in
-    let pre = loop .before .before .before .pre .1 in
+    let pre = loop .before .before .before .before .pre .1 in
     record {
       spoken = record { last = pre .0 .1; of = pre .1 .0 };
       left = loop .loop .inv;
@@ -40,9 +40,10 @@ event c =
 
 case-violation-requires : tie.Need-case-violation-requires Inv-loop μ-loop
 case-violation-requires c κs =
-    let pre = c .before .before .before .before .before .pre in
+    let pre = c .before .before .before .before .before .before .pre in
     record {
       sound = pre .0;
+      taken = pre .1 .0 .2;
       placed = open-below (event c);
       later = pre .1 .0 .0;
       last = pre .1 .0 .1;

@@ -6,9 +6,11 @@ use Rattle.bounded.specs.Search.{first}
 use Rattle.part.specs.Record.{events, observing}
 use Rattle.relations.proofs.SilentReach.{closure-total, sizes-alone, concerned-none}
 use Rattle.restrictive.specs.Verdict.{rule-violation}
+use Rattle.restrictive.proofs.Offers.{coarse-rule}
 use Rattle.restrictive.proofs.Sameness.{no-events}
 use Rattle.restrictive.proofs.Scans.{nothing-more}
 use Rattle.restrictive.proofs.Taken.{finds-early, finds-none}
+use Rattle.restrictive.proofs.Verdicts.{coarsely}
 use Rattle.restrictive.proofs.rules.violation_for.Statement.{statement}
 use Rattle.restrictive.proofs.rules.violation_for.Tie as tie
 
@@ -17,9 +19,9 @@ events-requires c κs = search needs
 
 returns : tie.Need-returns
 returns c =
-    let start = c .before .before .before .before in
+    let start = c .before .before .before .before .before in
     let none-there : events (now (start .args .b)) ≡ 0 = let m = c .before .events .ensures .0 in omega arith in
-    finds-none _ _ (no-events _ (observing (start .args .observer) (now (start .args .column))) none-there)
+    finds-none _ _ (no-events _ (observing (start .args .observer) (now (start .args .column)) (now (start .args .fine))) none-there)
     (start .pre .sized ∙ sym (sizes-alone _ 0 refl) ∙ closure-total _ _ _ (concerned-none _ _ _ none-there))
 
 concerned-requires : tie.Need-concerned-requires
@@ -29,7 +31,7 @@ array-read-rule-1 : tie.Need-array-read-rule-1
 array-read-rule-1 c = search needs
 
 rule-1-requires : tie.Need-rule-1-requires
-rule-1-requires c κs = (c .before .before .before .before .before .pre, c .concerned .ensures 0 (omega arith))
+rule-1-requires c κs = (coarsely (c .before .before .before .before .before .before .pre), c .concerned .ensures 0 (omega arith))
 
 enum-told : tie.Need-enum-told
 enum-told c = search needs
@@ -37,7 +39,7 @@ enum-told c = search needs
 returns-2 : tie.Need-returns-2
 unfolding first
 returns-2 c =
-    finds-early _ _ 0 (omega arith) (c .before .before .rule-1 .ensures) refl (c .enum-told .given .1)
+    finds-early _ _ 0 (omega arith) (c .before .before .rule-1 .ensures ∙ coarse-rule _ _ 0 (omega arith)) refl (c .enum-told .given .1)
 
 enum-told-2 : tie.Need-enum-told-2
 enum-told-2 c = search needs
@@ -47,8 +49,8 @@ unfolding first
 rules-from-2-requires c κs =
     let one = c .before .before .before in
     let spoken = one .before in
-    let none = nothing-more (rule-violation _ _) 0 _ (one .rule-1 .ensures) refl (c .before .enum-told2 .given .1) in
-    (spoken .before .before .before .before .before .pre, (spoken .concerned .ensures, none))
+    let none = nothing-more (rule-violation _ _) 0 _ (one .rule-1 .ensures ∙ coarse-rule _ _ 0 (omega arith)) refl (c .before .enum-told2 .given .1) in
+    (spoken .before .before .before .before .before .before .pre, (spoken .concerned .ensures, none))
 
 returns-3 : tie.Need-returns-3
 returns-3 c = search needs

@@ -5,7 +5,8 @@ use borrow.Author.Needs.{needs}
 use Rattle.bounded.proofs.Search.{true-not-false}
 use Rattle.words.specs.Sets.{Rows}
 use Rattle.words.proofs.Arrays.{filled-end}
-use Rattle.part.specs.Record.{states, observing}
+use Rattle.words.specs.LittleEndian.{byte}
+use Rattle.part.specs.Record.{states}
 use Rattle.restrictive.specs.Sets.{reached}
 use Rattle.restrictive.specs.Verdict.{violation-for}
 use Rattle.restrictive.proofs.OfferArrays.{reached-classes, around-offers}
@@ -24,13 +25,13 @@ gather-each-requires c κs = search needs
 
 -- the classes of a closure are those that silent steps lead to
 meets : (c : tie.After-gather-each) →
-    let start = c .before .before .before .before .before in
+    let start = c .before .before .before .before .before .before in
     Rows (states (now (start .args .b))) (c .gather-each .result)
-    (reached (now (start .args .b)) (observing (start .args .observer) (now (start .args .column))))
+    (reached (now (start .args .b)) (start .args .observer) (byte (now (start .args .column))))
 meets c =
-    let start = c .before .before .before .before .before in
+    let start = c .before .before .before .before .before .before in
     let sound = start .pre .0 in
-    reached-classes _ _ (sound .framed) (sound .within)
+    reached-classes _ _ _ (sound .framed) (sound .within)
     (now (start .args .closure)) (now (start .args .labels)) (c .gather-each .result)
     (start .pre .1 .1 .0) (rw (sound .sized) at (start .pre .1 .1 .1 .0))
     (filled-end (sound .sized) (c .gather-each .ensures) .words)
@@ -38,7 +39,7 @@ meets c =
 rule-4-requires : tie.Need-rule-4-requires
 rule-4-requires c κs =
     let met = c .before .before in
-    let pre = met .before .before .before .before .before .pre in
+    let pre = met .before .before .before .before .before .before .pre in
     (pre .0, (pre .1 .0 3 (omega arith), meets met))
 
 enum-told : tie.Need-enum-told
@@ -48,7 +49,7 @@ returns : tie.Need-returns
 unfolding violation-for
 returns c =
     let four = c .before .before in
-    let start = four .before .before .before .before .before .before .before .before in
+    let start = four .before .before .before .before .before .before .before .before .before in
     found-first _ 3 _ (four .rule-4 .ensures) (start .pre .1 .1 .1 .1) 5 _ (c .enum-told .given .1) (omega arith)
 
 enum-told-2 : tie.Need-enum-told-2
@@ -57,14 +58,14 @@ enum-told-2 c = search needs
 by-event-requires : tie.Need-by-event-requires
 by-event-requires c κs =
     let met = c .before .before .before .before .before .before .before .before in
-    let start = met .before .before .before .before .before in
+    let start = met .before .before .before .before .before .before in
     let sound = start .pre .0 in
     let silently =
-    around-offers _ _ (sound .framed) (sound .within)
+    around-offers _ _ _ (sound .framed) (sound .within)
     (now (start .args .closure)) (met .gather-each .result) (start .pre .1 .1 .0) (meets met) in (
       sound,
       (
-        (omega arith, omega arith),
+        (omega arith, omega arith, λ e. absurd (omega arith)),
         (start .pre .1 .0 4 (omega arith), (λ e. absurd (true-not-false refl e), λ e. silently)),
       ),
     )
@@ -74,7 +75,7 @@ unfolding violation-for
 returns-2 c =
     let told = c .before .before .before .before in
     let four = told .before .before in
-    let start = four .before .before .before .before .before .before .before .before in
+    let start = four .before .before .before .before .before .before .before .before .before in
     found-last _ 4 _ (c .by-event .ensures)
     (nothing-more _ 3 _ (four .rule-4 .ensures) (start .pre .1 .1 .1 .1) (told .enum-told2 .given .1))
 

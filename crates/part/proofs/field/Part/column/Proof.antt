@@ -23,9 +23,9 @@ add-end : tie.Need-add-end
 add-end c =
     let few = c .before .before .counts .ensures .1 in
     let at = c .before .column-at .ensures in
-    let o : c .before .before .before .before .args .o < c .before .before .counts .result .form .columns =
+    let j : c .before .before .before .before .args .j < c .before .before .counts .result .form .columns =
     rw (c .before .before .counts .ensures .0) (c .before .before .before .before .pre .1) in
-    omega (arith, few, classes-before _ few _ o)
+    omega (arith, few, classes-before _ few _ j)
 
 sub-result : tie.Need-sub-result
 sub-result c = search needs
@@ -39,10 +39,10 @@ part-result-end c =
     let few = c .before .before .counts .ensures .1 in
     let at = c .before .column-at .ensures in
     let read = c .before .before .counts .ensures .0 in
-    let o : start .args .o < c .before .before .counts .result .form .columns = rw read (start .pre .1) in
+    let j : start .args .j < c .before .before .counts .result .form .columns = rw read (start .pre .1) in
     let whole : length (now (start .args .b)) ≡ record-size (c .before .before .counts .result) = rw read (start .pre
     .0 .whole) in
-    omega (arith, classes-before _ few _ o)
+    omega (arith, classes-before _ few _ j)
 
 returns : tie.Need-returns
 unfolding column

@@ -1,0 +1,3 @@
+pub mod Classes
+pub mod Sets
+pub mod Theorems
