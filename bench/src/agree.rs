@@ -122,11 +122,11 @@ impl Score {
         }
     }
 
-    /// Random parts with one observer or with several, whole, damaged and mislabelled, and random bytes.
-    pub fn random(&mut self, seed: u64, rounds: usize, several: bool) {
+    /// Random parts of a kind, whole, damaged and mislabelled, and random bytes.
+    pub fn random(&mut self, seed: u64, rounds: usize, kind: u8) {
         let dice = &mut Dice(seed);
         for round in 0..rounds {
-            let (a, b) = couple(dice, several);
+            let (a, b) = couple(dice, kind);
             let (mut x, mut y) = (a.record(), b.record());
             self.single(dice, &format!("random part {round}"), &x, pieces(&a));
             self.join(&format!("random pair {round}"), &x, &y, room(dice, joined_len(&a, &b)));
@@ -135,11 +135,11 @@ impl Score {
             self.join(&format!("damaged A {round}"), &x, &y, ROOM);
             damage(dice, &mut y);
             self.join(&format!("damaged B {round}"), &a.record(), &y, ROOM);
-            if several {
-                self.spoilt(dice, round, &a, &b);
+            if kind != 1 {
+                self.spoilt(dice, round, kind, &a, &b);
             }
             self.mislabelled(dice, round, &a, b);
-            let c = scattered(dice, several);
+            let c = scattered(dice, kind);
             self.single(dice, &format!("scattered part {round}"), &c.record(), pieces(&c));
             let noise: Vec<u8> = (0..dice.below(40)).map(|_| dice.below(3) as u8).collect();
             self.single(dice, &format!("noise {round}"), &noise, 1);
@@ -159,9 +159,9 @@ impl Score {
         *self.mislabelled.entry(which).or_default() += 1;
     }
 
-    /// A record of kind 2 that 5, 20 or 6 refuses, alone and on both sides of a join; and now and then one of the largest size.
-    fn spoilt(&mut self, dice: &mut Dice, round: usize, a: &Table, b: &Table) {
-        let (which, record, due) = spoil(dice, a);
+    /// A record of kind 2 or 3 that 5, 20, 6 or 21 refuses, alone and on both sides of a join; and now and then one of the kind's largest size.
+    fn spoilt(&mut self, dice: &mut Dice, round: usize, kind: u8, a: &Table, b: &Table) {
+        let (which, record, due) = if kind == 2 { spoil_list(dice, a) } else { spoil_limited(dice, a) };
         let name = format!("part {round}, spoilt {which}");
         let answer = self.single(dice, &name, &record, pieces(a));
         self.made_for(&name, due, answer);
@@ -170,11 +170,10 @@ impl Score {
         self.join(&name, &b.record(), &record, ROOM);
         *self.spoilt.entry(which).or_default() += 1;
         if dice.one_in(20) {
-            let largest = largest(dice);
+            let largest = largest(dice, kind);
             let name = format!("largest part {round}");
             self.single(dice, &name, &largest.record(), pieces(&largest));
-            let mut one = Table::new(vec![0]);
-            one.further = largest.further.iter().map(|&(observer, _)| (observer, vec![0])).collect();
+            let one = one_state(&largest);
             self.join(&name, &largest.record(), &one.record(), room(dice, largest.record().len()));
             self.join(&name, &one.record(), &largest.record(), ROOM);
         }
@@ -204,10 +203,10 @@ fn pieces(table: &Table) -> usize {
     table.n() * table.views().len()
 }
 
-/// One observer, or two to four in rising order.
-fn observers(dice: &mut Dice, several: bool) -> Vec<u8> {
+/// One observer, or in kind 2 two to four in rising order.
+fn observers(dice: &mut Dice, kind: u8) -> Vec<u8> {
     let mut list = vec![dice.observer()];
-    if several {
+    if kind == 2 {
         let count = 2 + dice.below(3);
         while list.len() < count {
             list.push(dice.observer());
@@ -218,17 +217,24 @@ fn observers(dice: &mut Dice, several: bool) -> Vec<u8> {
     list
 }
 
-/// Two parts that often share events and often pass.
-pub fn couple(dice: &mut Dice, several: bool) -> (Table, Table) {
+/// Two parts that often share events and often pass. Where the kind is 3, one of them may be of kind 1 and, if it is B, of kind 2.
+pub fn couple(dice: &mut Dice, kind: u8) -> (Table, Table) {
     let (na, nb) = [(8, 8), (64, 1), (1, 64), (32, 2), (5, 7), (9, 7), (2, 3), (64, 2), (1, 1)][dice.below(9)];
-    let list = observers(dice, several);
-    let mut a = grouped(dice, na, &list);
-    let mut other = if dice.one_in(10) { observers(dice, several) } else { list };
-    if several && dice.one_in(20) {
+    let list = observers(dice, kind);
+    let (limited_a, limited_b) = match kind {
+        3 => [(true, true), (true, true), (true, false), (false, true)][dice.below(4)],
+        _ => (false, false),
+    };
+    let mut a = grouped(dice, na, &list, limited_a);
+    let mut other = if dice.one_in(10) { observers(dice, kind) } else { list };
+    if kind == 2 && dice.one_in(20) {
         // Perhaps one is left: kind 1.
         other.remove(dice.below(other.len()));
     }
-    let mut b = grouped(dice, nb, &other);
+    if limited_a && !limited_b && dice.one_in(10) {
+        other = observers(dice, 2);
+    }
+    let mut b = grouped(dice, nb, &other, limited_b);
     if !dice.one_in(8) {
         share(dice, &mut a, &mut b);
     }
@@ -250,14 +256,37 @@ fn classes(dice: &mut Dice, n: usize) -> Vec<u8> {
     classes
 }
 
+/// The classes that these keys make, numbered by first appearance.
+fn numbered<K: PartialEq>(keys: &[K]) -> Vec<u8> {
+    let mut seen: Vec<&K> = Vec::new();
+    let mut number = |key| {
+        seen.iter().position(|&other| other == key).unwrap_or_else(|| {
+            seen.push(key);
+            seen.len() - 1
+        })
+    };
+    keys.iter().map(|key| number(key) as u8).collect()
+}
+
+/// Fine classes for these: each is split by other classes, of which there may be one.
+fn refined(dice: &mut Dice, column: &[u8]) -> Vec<u8> {
+    let other = classes(dice, column.len());
+    numbered(&column.iter().zip(other).collect::<Vec<_>>())
+}
+
+fn count(column: &[u8]) -> usize {
+    column.iter().fold(0, |seen, &class| seen.max(class as usize + 1))
+}
+
 /// A part made from a machine of the first observer's classes; sometimes one row is then changed. Each further observer has the same classes,
-/// or some of them are one.
-fn grouped(dice: &mut Dice, n: usize, observers: &[u8]) -> Table {
+/// or some of them are one. In a limited part the outputs and internal events lead alike from the states of a fine class alone.
+fn grouped(dice: &mut Dice, n: usize, observers: &[u8], limited: bool) -> Table {
     let classes = classes(dice, n);
-    let seen = classes.iter().fold(0, |seen, &class| seen.max(class as usize + 1));
+    let seen = count(&classes);
     let members: Vec<u64> =
         (0..seen).map(|class| (0..n).filter(|&s| classes[s] as usize == class).fold(0, |set, s| set | 1 << s)).collect();
     let mut table = Table::new(classes.clone());
+    table.fine = limited.then(|| refined(dice, &classes));
     let observer = observers[0];
     table.observer = observer;
     for &observer in &observers[1..] {
@@ -279,7 +308,8 @@ fn grouped(dice: &mut Dice, n: usize, observers: &[u8]) -> Table {
         // The same from every class, so that no coarser classes break a rule.
         let alike = observers.len() > 1 && !dice.one_in(5);
         let goal = if alike { dice.some(span(0..seen)) } else { 0 };
-        let goals: Vec<u64> = (0..seen)
+        let groups = table.fine.as_ref().filter(|_| kind != INPUT).unwrap_or(&classes);
+        let goals: Vec<u64> = (0..count(groups))
             .map(|class| match (kind == INPUT, low) {
                 (input, low) if alike && (low || !input) => goal,
                 (true, false) => 1 << class,
@@ -290,9 +320,7 @@ fn grouped(dice: &mut Dice, n: usize, observers: &[u8]) -> Table {
             .collect();
         let mut rows: Vec<u64> = (0..n)
             .map(|s| {
-                (0..seen)
-                    .filter(|&class| goals[classes[s] as usize] >> class & 1 == 1)
-                    .fold(0, |row, class| row | dice.some(members[class]))
+                (0..seen).filter(|&class| goals[groups[s] as usize] >> class & 1 == 1).fold(0, |row, class| row | dice.some(members[class]))
             })
             .collect();
         if thin && kind != INPUT && dice.one_in(4) {
@@ -310,14 +338,17 @@ fn grouped(dice: &mut Dice, n: usize, observers: &[u8]) -> Table {
 }
 
 /// A part with any number of states, and few steps from each of them, or steps to all.
-fn scattered(dice: &mut Dice, several: bool) -> Table {
+fn scattered(dice: &mut Dice, kind: u8) -> Table {
     let n = 1 + dice.below(64);
     let some = |dice: &mut Dice| if dice.one_in(3) { vec![0; n] } else { classes(dice, n) };
     let mut table = Table::new(some(dice));
-    if several {
-        let list = observers(dice, true);
+    if kind == 2 {
+        let list = observers(dice, kind);
         table.observer = list[0];
         table.further = list[1..].iter().map(|&observer| (observer, some(dice))).collect();
+    }
+    if kind == 3 {
+        table.fine = Some(refined(dice, &table.classes));
     }
     let most = 1 + dice.below(2);
     for _ in 0..dice.below(6) {
@@ -359,16 +390,21 @@ fn joined_len(a: &Table, b: &Table) -> usize {
     let shared = a.events.iter().filter(|event| b.events.iter().any(|other| other.id == event.id)).count();
     let m = a.events.len() + b.events.len() - shared;
     let list = if a.further.is_empty() { 0 } else { 1 + a.further.len() };
-    10 + list + (1 + a.further.len()) * n + 4 * m + 8 * m * n
+    let fine = (a.fine.is_some() || b.fine.is_some()) as usize;
+    10 + list + (1 + a.further.len() + fine) * n + 4 * m + 8 * m * n
 }
 
-/// Four observers, 64 states and 32 events, which lead anywhere.
-pub fn largest(dice: &mut Dice) -> Table {
+/// Four observers or fine classes, 64 states and 32 events, which lead anywhere.
+pub fn largest(dice: &mut Dice, kind: u8) -> Table {
     let list = [0x00, 0x40, 0x80, 0xc1];
     let same = if dice.one_in(2) { Some(classes(dice, 64)) } else { None };
     let column = |dice: &mut Dice| same.clone().unwrap_or_else(|| if dice.one_in(2) { vec![0; 64] } else { classes(dice, 64) });
     let mut table = Table::new(column(dice));
-    table.further = list[1..].iter().map(|&observer| (observer, column(dice))).collect();
+    if kind == 2 {
+        table.further = list[1..].iter().map(|&observer| (observer, column(dice))).collect();
+    } else {
+        table.fine = Some(refined(dice, &table.classes));
+    }
     table.start = dice.below(64) as u8;
     for _ in 0..32 {
         let (kind, level) = (dice.below(3) as u8, list[dice.below(4)]);
@@ -378,11 +414,61 @@ pub fn largest(dice: &mut Dice) -> Table {
     table
 }
 
+/// One state without events, of the same kind and for the same observers.
+pub fn one_state(table: &Table) -> Table {
+    let mut one = Table::new(vec![0]);
+    one.further = table.further.iter().map(|&(observer, _)| (observer, vec![0])).collect();
+    one.fine = table.fine.as_ref().map(|_| vec![0]);
+    one
+}
+
+/// A class that is not the next one by first appearance for this state.
+fn skip(dice: &mut Dice, column: &mut [u8]) {
+    let s = dice.below(column.len());
+    column[s] = count(&column[..s]) as u8 + 1 + dice.below(2) as u8;
+}
+
+/// A record of kind 3 that 5, 6 or 21 refuses, made of this part; with faults that the refusal hides. Tells what is wrong, and which answer is
+/// due.
+fn spoil_limited(dice: &mut Dice, table: &Table) -> (String, Vec<u8>, u32) {
+    let mut table = Table { further: vec![], ..table.clone() };
+    let (n, m) = (table.n(), table.events.len());
+    let mut fine = table.fine.take().unwrap_or_else(|| table.classes.clone());
+    if dice.one_in(2) {
+        table.observer = 1 + dice.below(63) as u8;
+    }
+    if m > 0 && dice.one_in(2) {
+        table.events[dice.below(m)].kind = 3;
+    }
+    let s = dice.below(n);
+    let stranger = (0..s).find(|&t| table.classes[t] != table.classes[s]);
+    let (which, due) = match (dice.below(4), stranger) {
+        (0, _) => ("without fine classes", 5),
+        (1, _) => ("class skipped", 6),
+        (2, Some(t)) => {
+            fine[s] = fine[t];
+            fine = numbered(&fine);
+            ("fine class across two", 21)
+        }
+        _ => ("fine class skipped", 21),
+    };
+    if which == "fine class skipped" || (due < 21 && dice.one_in(2)) {
+        skip(dice, &mut fine);
+    }
+    if due == 6 || (due == 5 && dice.one_in(2)) {
+        skip(dice, &mut table.classes);
+    }
+    table.fine = (due != 5).then_some(fine);
+    let mut record = table.record();
+    record[4] = 3;
+    (which.to_string(), record, due)
+}
+
 /// A record of kind 2 that 5, 20 or 6 refuses, made of this part; with faults that the refusal hides. Tells what is wrong, and which answer is
 /// due.
-fn spoil(dice: &mut Dice, table: &Table) -> (String, Vec<u8>, u32) {
+fn spoil_list(dice: &mut Dice, table: &Table) -> (String, Vec<u8>, u32) {
     let mut table = table.clone();
-    let (n, m) = (table.n(), table.events.len());
+    let m = table.events.len();
     if dice.one_in(2) {
         table.observer = 0;
         table.further.truncate(1);
@@ -415,8 +501,7 @@ fn spoil(dice: &mut Dice, table: &Table) -> (String, Vec<u8>, u32) {
     };
     if due == 6 || dice.one_in(2) {
         if let Some((_, classes)) = views.get_mut(i) {
-            let s = dice.below(n);
-            classes[s] = classes[..s].iter().fold(0, |k, &class| k.max(class + 1)) + 1 + dice.below(2) as u8;
+            skip(dice, classes);
         }
     }
     let views: Vec<(u8, &[u8])> = views.iter().map(|(observer, classes)| (*observer, &classes[..])).collect();
@@ -497,9 +582,9 @@ fn damage(dice: &mut Dice, record: &mut Vec<u8>) {
 
 /// How many bytes list observers, and how many class columns follow.
 fn lists(record: &[u8]) -> (usize, usize) {
-    if record[4] == 2 {
-        (record[6] as usize, record[6] as usize)
-    } else {
-        (0, 1)
+    match record[4] {
+        2 => (record[6] as usize, record[6] as usize),
+        3 => (0, 2),
+        _ => (0, 1),
     }
 }

@@ -15,13 +15,14 @@ const RANKS: [u8; 4] = [0x00, 0x40, 0x80, 0xc0];
 /// High for all of them.
 const ABOVE: u8 = 0xc1;
 
-/// A part before it becomes a record. With further observers, each with its classes, the record is of kind 2.
+/// A part before it becomes a record. With further observers, each with its classes, the record is of kind 2; with fine classes, of kind 3.
 #[derive(Clone)]
 pub struct Table {
     pub observer: u8,
     pub start: u8,
     pub classes: Vec<u8>,
     pub further: Vec<(u8, Vec<u8>)>,
+    pub fine: Option<Vec<u8>>,
     pub events: Vec<Event>,
 }
 
@@ -35,7 +36,7 @@ pub struct Event {
 
 impl Table {
     pub fn new(classes: Vec<u8>) -> Self {
-        Table { observer: 0, start: 0, classes, further: Vec::new(), events: Vec::new() }
+        Table { observer: 0, start: 0, classes, further: Vec::new(), fine: None, events: Vec::new() }
     }
 
     pub fn n(&self) -> usize {
@@ -64,6 +65,17 @@ impl Table {
         self
     }
 
+    /// The same with these fine classes.
+    fn limited(self, fine: Vec<u8>) -> Self {
+        Table { fine: Some(fine), ..self }
+    }
+
+    /// The same with its classes as the fine ones, two to a class.
+    fn halved(self) -> Self {
+        let classes = self.classes.iter().map(|class| class / 2).collect();
+        Table { fine: Some(self.classes), classes, ..self }
+    }
+
     fn last_row(&mut self, back: usize) -> &mut u64 {
         let n = self.n();
         &mut self.events.last_mut().unwrap().rows[n - back]
@@ -85,8 +97,10 @@ impl Table {
         if !self.further.is_empty() {
             return self.record_for(&self.views());
         }
-        let mut bytes = vec![1, 0, self.observer, self.n() as u8, self.start, self.events.len() as u8];
+        let kind = if self.fine.is_some() { 3 } else { 1 };
+        let mut bytes = vec![kind, 0, self.observer, self.n() as u8, self.start, self.events.len() as u8];
         bytes.extend(&self.classes);
+        bytes.extend(self.fine.iter().flatten());
         self.behind_length(bytes)
     }
 
@@ -167,7 +181,12 @@ fn pairs(n: usize) -> Vec<u8> {
     (0..n).map(|s| (s % (n / 2)) as u8).collect()
 }
 
-/// The same, but the last two states have classes of their own.
+/// Four states share a class, one of each quarter: two of the pairs.
+fn fours(n: usize) -> Vec<u8> {
+    (0..n).map(|s| (s % (n / 4)) as u8).collect()
+}
+
+/// The pairs, but the last two states have classes of their own.
 fn pairs_before(n: usize) -> Vec<u8> {
     let half = n / 2 - 1;
     (0..n).map(|s| if s < 2 * half { s % half } else { s - half } as u8).collect()
@@ -262,6 +281,40 @@ const EXPLANATIONS_OF_LISTS: &[ListFamily] = &[
     ("explain two rule 5", "explain four rule 5", 105, late5_last),
 ];
 
+/// Limited parts: in each of the fours the two pairs are its fine classes, where nothing else is said.
+const LIMITED: &[Family] = &[
+    ("limited full output", 0, |n, m| full(fours(n), m, OUTPUT, LOW).limited(pairs(n))),
+    ("limited full input", 0, |n, m| full(fours(n), m, INPUT, LOW).limited(pairs(n))),
+    ("limited full silent", 0, |n, m| full(fours(n), m, INTERNAL, HIGH).limited(pairs(n))),
+    ("limited full single", 0, |n, m| full(single(n), m, OUTPUT, LOW).limited(pairs(n))),
+    ("limited full own", 0, |n, m| full(pairs(n), m, OUTPUT, LOW).limited(own(n))),
+    ("limited sparse output", 0, |n, m| Table::new(fours(n)).limited(pairs(n)).with(m, OUTPUT, LOW, |e, s| turn(n, e, s))),
+    ("limited sparse input", 0, |n, m| Table::new(fours(n)).limited(pairs(n)).with(m, INPUT, LOW, |e, s| turn(n, e, s))),
+    ("limited sparse silent", 0, |n, m| Table::new(fours(n)).limited(pairs(n)).with(m, OUTPUT, HIGH, |e, s| turn(n, e, s))),
+    ("limited sparse mixed", 0, |n, m| Table { classes: fours(n), ..mixed(n, m) }.limited(pairs(n))),
+    ("limited line up", 0, |n, m| up(n, m).limited(pairs(n))),
+    ("limited leak", 0, leak),
+    ("limited late rule 2", 102, |n, m| late2(n, m).limited(own(n))),
+    ("limited late rule 3", 103, |n, m| late3(n, m).limited(own(n))),
+    ("limited late rule 4", 104, |n, m| late4(n, m).halved()),
+    ("limited late rule 5", 105, |n, m| late5(n, m).halved()),
+];
+
+/// The limited parts whose closures are timed.
+const CLOSURES_OF_LIMITED: &[Family] = &[
+    ("closure limited up", 0, |n, m| up(n, m).limited(pairs(n))),
+    ("closure limited full", 0, |n, m| full(single(n), m, OUTPUT, HIGH).limited(pairs(n))),
+    ("closure limited sparse", 0, |n, m| sparse(n, m).limited(pairs(n))),
+];
+
+/// The limited parts whose explanations are timed.
+const EXPLANATIONS_OF_LIMITED: &[Family] = &[
+    ("explain limited output", 0, |n, m| full(fours(n), m, OUTPUT, LOW).limited(pairs(n))),
+    ("explain limited leak", 0, leak),
+    ("explain limited rule 4", 104, |n, m| late4(n, m).halved()),
+    ("explain limited rule 5", 105, |n, m| late5(n, m).halved()),
+];
+
 /// Every kind and every observer's level, one step for each state: each observer sees other events. Inputs stay in their class where they are
 /// high for one of them.
 fn ranks(n: usize, m: usize, count: usize) -> Table {
@@ -284,6 +337,22 @@ fn late5_last(n: usize, m: usize, count: usize) -> Table {
     let mut list = vec![pairs_before(n); count];
     list[count - 1] = last_two(n);
     late5(n, m).listed(list)
+}
+
+/// A part that passes by its fine classes alone: in each of the fours only the first pair has silent steps and low outputs, and high inputs lead
+/// from pair to pair. The two states of a first pair differ in their closures: silent steps lead from the one to first pairs, all around, from
+/// the other to a second pair.
+fn leak(n: usize, m: usize) -> Table {
+    let quarter = n / 4;
+    let mut table = Table::new(fours(n)).limited(pairs(n));
+    for e in 0..m {
+        match e % 3 {
+            0 => table.add(INPUT, HIGH, |s| turn(n, quarter - 1, s)),
+            1 => table.add(OUTPUT, LOW, |s| [1 << s, 0, 1 << s, 0][s / quarter]),
+            _ => table.add(INTERNAL, HIGH, |s| [1 << ((s + 1) % quarter), 0, 1 << ((s + 1) % quarter + quarter), 0][s / quarter]),
+        }
+    }
+    table
 }
 
 /// Silent steps from each state to the next, in one class.
@@ -388,6 +457,18 @@ fn tiny3() -> Table {
     up(2, 1)
 }
 
+fn tinies() -> [Table; 3] {
+    [tiny1(), tiny2(), tiny3()]
+}
+
+/// The tiny records with a fine class for each state.
+fn limited_tinies() -> [Table; 3] {
+    tinies().map(|table| {
+        let fine = own(table.n());
+        table.limited(fine)
+    })
+}
+
 /// All that is timed.
 pub struct Inputs {
     pub checks: Vec<One>,
@@ -401,15 +482,19 @@ impl Inputs {
     pub fn new(ns: &[usize], ms: &[usize], text: &str) -> Self {
         let ends = |sizes: &[usize]| [sizes[0], sizes[sizes.len() - 1]];
         let mut inputs = Inputs {
-            checks: sized("tiny", FAMILIES, ns, ms),
-            explanations: sized("explain tiny", EXPLANATIONS, &ends(ns), &ends(ms)),
+            checks: sized("tiny", tinies(), FAMILIES, ns, ms),
+            explanations: sized("explain tiny", tinies(), EXPLANATIONS, &ends(ns), &ends(ms)),
             joins: joins(),
-            closures: sized("closure tiny", CLOSURES, ns, ms),
+            closures: sized("closure tiny", tinies(), CLOSURES, ns, ms),
         };
         inputs.checks.extend(listed(["two tiny", "four tiny"], LISTS, ns, ms));
         inputs.explanations.extend(listed(["explain two tiny", "explain four tiny"], EXPLANATIONS_OF_LISTS, ns, ms));
         inputs.joins.extend(joins_of_lists());
         inputs.closures.extend(listed(["closure two tiny", "closure four tiny"], CLOSURES_OF_LISTS, ns, ms));
+        inputs.checks.extend(sized("limited tiny", limited_tinies(), LIMITED, ns, ms));
+        inputs.explanations.extend(sized("explain limited tiny", limited_tinies(), EXPLANATIONS_OF_LIMITED, &ends(ns), &ends(ms)));
+        inputs.joins.extend(joins_of_limited());
+        inputs.closures.extend(sized("closure limited tiny", limited_tinies(), CLOSURES_OF_LIMITED, ns, ms));
         for ones in [&mut inputs.checks, &mut inputs.explanations, &mut inputs.closures] {
             ones.retain(|one| one.name().contains(text));
         }
@@ -419,11 +504,8 @@ impl Inputs {
 }
 
 /// The tiny records, then each family in its sizes.
-fn sized(tiny: &'static str, families: &[Family], ns: &[usize], ms: &[usize]) -> Vec<One> {
-    let mut ones = Vec::new();
-    for table in [tiny1(), tiny2(), tiny3()] {
-        ones.push(One::new(tiny, 0, table));
-    }
+fn sized(tiny: &'static str, tinies: [Table; 3], families: &[Family], ns: &[usize], ms: &[usize]) -> Vec<One> {
+    let mut ones: Vec<One> = tinies.into_iter().map(|table| One::new(tiny, 0, table)).collect();
     for &(family, answer, make) in families {
         for &n in ns {
             for &m in ms {
@@ -441,7 +523,7 @@ fn listed(tiny: [&'static str; 2], families: &[ListFamily], ns: &[usize], ms: &[
     sizes.dedup();
     let mut ones = Vec::new();
     for (k, count) in [2, 4].into_iter().enumerate() {
-        for table in [tiny1(), tiny2(), tiny3()] {
+        for table in tinies() {
             let column = table.classes.clone();
             ones.push(One::new(tiny[k], 0, table.listed(vec![column; count])));
         }
@@ -502,10 +584,35 @@ fn joins_of_lists() -> Vec<Pair> {
     list
 }
 
+/// Joins of limited parts with each other and with parts of kind 1; and with a list, which 9 refuses.
+fn joins_of_limited() -> Vec<Pair> {
+    let made = |limited: bool, table: Table| match table.n() {
+        _ if !limited => table,
+        1 => table.limited(single(1)),
+        n => Table { classes: fours(n), ..table }.limited(pairs(n)),
+    };
+    let mut list = Vec::new();
+    for (name, x, y) in [("limited", true, true), ("limited x one", true, false), ("one x limited", false, true)] {
+        list.push(pair(&format!("{name}, tiny x tiny"), 0, &made(x, tiny1()), &made(y, tiny1())));
+        for shape in ["full", "sparse"] {
+            for (na, nb) in [(8, 8), (64, 1)] {
+                let (a, b) = (made(x, side(shape, na, 32, OUTPUT, 0)), made(y, side(shape, nb, 32, INPUT, 0)));
+                list.push(pair(&format!("{name}, {shape} {na} x {nb}, 32 shared"), 0, &a, &b));
+            }
+            let (a, b) = (made(x, side(shape, 8, 16, OUTPUT, 0)), made(y, side(shape, 8, 16, INPUT, 1)));
+            list.push(pair(&format!("{name}, {shape} 8 x 8, 16 + 16"), 0, &a, &b));
+        }
+    }
+    let (a, b) = (made(true, side("full", 8, 16, OUTPUT, 0)), side("full", 8, 16, INPUT, 1).listed(vec![pairs(8); 2]));
+    list.push(pair("limited x two, full 8 x 8", 9, &a, &b));
+    list
+}
+
 fn pair(name: &str, answer: u32, a: &Table, b: &Table) -> Pair {
-    let (family, alone) = match a.further.is_empty() {
-        true => ("join", vec![]),
-        false => ("join of lists", a.alone().into_iter().zip(b.alone()).collect()),
+    let (family, alone) = match (a.further.is_empty(), a.fine.is_some() || b.fine.is_some()) {
+        (true, true) => ("join of limited", vec![]),
+        (true, false) => ("join", vec![]),
+        (false, _) => ("join of lists", a.alone().into_iter().zip(b.alone()).collect()),
     };
     Pair { family, name: name.to_string(), n: a.n() * b.n(), answer, a: a.record(), b: b.record(), alone }
 }

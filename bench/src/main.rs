@@ -143,8 +143,9 @@ fn usage(message: &str) -> ! {
 fn compare(inputs: &Inputs, rounds: usize) {
     let mut score = Score::of(&VERSIONS);
     score.timed(inputs);
-    score.random(1, rounds, false);
-    score.random(2, rounds, true);
+    for kind in 1..=3 {
+        score.random(kind as u64, rounds, kind);
+    }
     println!("Compared with the library, as answer:times");
     let answers =
         [("checks", &score.checks), ("explanations", &score.explanations), ("joins", &score.joins), ("closures", &score.closures)];
@@ -152,7 +153,7 @@ fn compare(inputs: &Inputs, rounds: usize) {
         show_counts(calls, counts, " ");
     }
     show_counts("of these parts mislabelled on purpose", &score.mislabelled, ", ");
-    show_counts("records with several observers spoilt on purpose", &score.spoilt, ", ");
+    show_counts("records of kinds 2 and 3 spoilt on purpose", &score.spoilt, ", ");
     if score.differences > 0 {
         println!("{} differences", score.differences);
         exit(1);
@@ -319,7 +320,7 @@ fn growth<'a>(lines: impl Iterator<Item = &'a Line> + Clone, ns: &[usize], ms: &
 }
 
 /// The records on which the program is timed.
-const CHOSEN: [&str; 12] = [
+const CHOSEN: [&str; 14] = [
     "tiny n=1 m=0",
     "tiny n=2 m=2",
     "full output own n=64 m=32",
@@ -332,6 +333,8 @@ const CHOSEN: [&str; 12] = [
     "late rule 5 n=64 m=32",
     "four full output n=64 m=32",
     "four late rule 5 n=64 m=32",
+    "limited full output n=64 m=32",
+    "limited late rule 5 n=64 m=32",
 ];
 
 /// Times the program beside one that does nothing.
@@ -421,8 +424,12 @@ fn sum_up(calls: &[(&str, Vec<Line>)]) {
             let Some(worst) = largest(lines.iter(), |line| line.ratio(version)) else {
                 continue;
             };
-            let above = lines.iter().filter(|line| line.ratio(version) > 1.5).count();
-            println!("  {call} against {name}: largest ratio {worst}; above 1.5 at {above} of {} inputs", lines.len());
+            let lines: Vec<&Line> = lines.iter().collect();
+            let (mean, above) = (mean(&lines, version), lines.iter().filter(|line| line.ratio(version) > 1.5).count());
+            println!(
+                "  {call} against {name}: geometric mean {mean:.2}, largest ratio {worst}; above 1.5 at {above} of {} inputs",
+                lines.len()
+            );
         }
         let full: Vec<&Line> = calls[0].1.iter().filter(|line| line.family.starts_with("full")).collect();
         if let Some(n) = full.iter().map(|line| line.n).max() {

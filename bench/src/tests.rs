@@ -1,6 +1,7 @@
-//! Records with several observers: all versions against answers worked out by hand, and against the library's answers for each observer alone.
+//! Records with several observers and limited parts: all versions against answers worked out by hand, and against the library's answers for each
+//! observer alone and for parts without fine classes.
 
-use crate::agree::{couple, largest, Score};
+use crate::agree::{couple, largest, one_state, Score};
 use crate::closure::PIECE;
 use crate::dice::Dice;
 use crate::inputs::{Event, Table, HIGH, INPUT, INTERNAL, LOW, OUTPUT};
@@ -55,25 +56,42 @@ fn with(classes: &[&[u8]], observers: &[u8], events: &[(u8, u8, &[u64])]) -> Tab
     table
 }
 
-#[test]
-fn all_agree() {
+/// A part with one observer, who sees the level 0, and with fine classes.
+fn limited(classes: &[u8], fine: &[u8], events: &[(u8, u8, &[u64])]) -> Table {
+    Table { fine: Some(fine.to_vec()), ..with(&[classes], &[LOW], events) }
+}
+
+/// All versions agree on random records of this kind, and every answer comes, with this refusal among them.
+fn agree(seed: u64, kind: u8, refusal: u32, spoilt: &[&str]) -> Score {
     let mut score = Score::of(&VERSIONS);
-    score.random(3, 600, true);
+    score.random(seed, 600, kind);
     assert_eq!(score.differences, 0);
-    for answer in [0, 1, 2, 3, 4, 5, 6, 7, 8, 16, 20, 101, 102, 103, 104, 105] {
+    for answer in [0, 1, 2, 3, 4, 5, refusal, 6, 7, 8, 16, 101, 102, 103, 104, 105] {
         assert!(score.checks.contains_key(&answer), "{answer} in {:?}", score.checks);
     }
-    for answer in [0, 9, 10, 11, 15, 20, 1020] {
+    for answer in [0, 9, 10, 11, 15, refusal, 1000 + refusal] {
         assert!(score.joins.contains_key(&answer), "{answer} in {:?}", score.joins);
     }
-    for answer in [0, 15, 20] {
+    for answer in [0, 15, refusal] {
         assert!(score.closures.contains_key(&answer), "{answer} in {:?}", score.closures);
     }
-    for which in ["count 0", "count 1", "count 5", "equal observers", "falling observers", "another count", "column 1", "column 4"] {
+    for &which in spoilt {
         assert!(score.spoilt.contains_key(which), "{which} in {:?}", score.spoilt);
     }
-    assert!(score.mislabelled.contains_key("second observer"), "{:?}", score.mislabelled);
     println!("checks {:?}\njoins {:?}\nclosures {:?}\nspoilt {:?}", score.checks, score.joins, score.closures, score.spoilt);
+    score
+}
+
+#[test]
+fn all_agree_on_lists() {
+    let spoilt = ["count 0", "count 1", "count 5", "equal observers", "falling observers", "another count", "column 1", "column 4"];
+    let score = agree(3, 2, 20, &spoilt);
+    assert!(score.mislabelled.contains_key("second observer"), "{:?}", score.mislabelled);
+}
+
+#[test]
+fn all_agree_on_limited_parts() {
+    agree(6, 3, 21, &["class skipped", "fine class skipped", "fine class across two", "without fine classes"]);
 }
 
 /// Several observers find what the library finds for each alone.
@@ -83,7 +101,7 @@ fn as_the_library_for_each_alone() {
     let dice = &mut Dice(4);
     let (mut late, mut passes, mut joined) = (0, 0, 0);
     for round in 0..1_000 {
-        let (a, b) = if round % 100 == 0 { (largest(dice), largest(dice)) } else { couple(dice, true) };
+        let (a, b) = if round % 100 == 0 { (largest(dice, 2), largest(dice, 2)) } else { couple(dice, 2) };
         let (x, y) = (a.record(), b.record());
         let views = a.alone();
         let each: Vec<_> = views.iter().map(|record| explained(library, record)).collect();
@@ -144,18 +162,58 @@ fn as_the_library_for_each_alone() {
     assert!(late > 20 && passes > 200 && joined > 50, "{late} {passes} {joined}");
 }
 
+/// A limited part gives the closures of the part without its fine classes, and where these are the classes also its answers. A joined part
+/// passes, with the limits of both as factors of its own.
 #[test]
-fn largest_record() {
-    let table = largest(&mut Dice(5));
-    assert_eq!(table.record().len(), 16_782);
-    // With one state for each of the four, it joins to a record of the same length.
-    let mut one = Table::new(vec![0]);
-    one.further = table.further.iter().map(|&(observer, _)| (observer, vec![0])).collect();
-    let part = with(&[&[0; 64][..]; 4], &[0, 0x40, 0x80, 0xc1], &[(OUTPUT, LOW, &[u64::MAX; 64][..]); 32]);
-    for version in &VERSIONS {
-        let (answer, out) = output(16_782, |out| (version.join)(&part.record(), &one.record(), out));
-        assert_eq!((answer, &out[..16_782]), (0, &part.record()[..]));
+fn as_the_library_without_fine_classes() {
+    let library = &VERSIONS[0];
+    let dice = &mut Dice(7);
+    let (mut passes, mut only, mut joined, mut both) = (0, 0, 0, 0);
+    for round in 0..1_000 {
+        let (a, b) = couple(dice, 3);
+        let one = Table { fine: None, ..a.clone() };
+        let same = Table { fine: Some(a.classes.clone()), ..a.clone() };
+        let due = explained(library, &one.record());
+        let closures = output(40_000, |out| (library.closure)(&one.record(), out));
+        passes += (due.0 == 0) as usize;
+        only += (due.0 > 100 && (library.check)(&a.record()) == 0) as usize;
+        for version in &VERSIONS {
+            assert_eq!(explained(version, &same.record()), due, "{} round {round}", version.name);
+            assert_eq!(output(40_000, |out| (version.closure)(&a.record(), out)), closures, "{} round {round}", version.name);
+        }
+
+        let (answer, out) = output(40_000, |out| (library.join)(&a.record(), &b.record(), out));
+        if answer != 0 || out[4] != 3 {
+            continue;
+        }
+        let length = 6 + u32::from_le_bytes(out[..4].try_into().unwrap()) as usize;
+        let limits = [&a, &b].map(|table| explained(library, &table.record()).1[7]);
+        joined += 1;
+        both += (limits[0] > 1 && limits[1] > 1) as usize;
+        for version in &VERSIONS {
+            let (answer, numbers) = explained(version, &out[..length]);
+            assert_eq!((answer, numbers[7]), (0, limits[0] * limits[1]), "{} round {round}", version.name);
+        }
     }
+    println!("of 1000: {passes} pass without fine classes, {only} only with them, {joined} join, {both} of two with limits above 1");
+    assert!(passes > 200 && only > 100 && joined > 100 && both > 20, "{passes} {only} {joined} {both}");
+}
+
+/// The largest record of a kind, and one of as many bytes that joins with one state to itself.
+fn largest_joins(seed: u64, kind: u8, length: usize, part: &Table) {
+    assert_eq!(largest(&mut Dice(seed), kind).record().len(), length);
+    for version in &VERSIONS {
+        let (answer, out) = output(length, |out| (version.join)(&part.record(), &one_state(part).record(), out));
+        assert_eq!((answer, &out[..length]), (0, &part.record()[..]));
+    }
+}
+
+#[test]
+fn largest_records() {
+    let events = [(OUTPUT, LOW, &[u64::MAX; 64][..]); 32];
+    largest_joins(5, 2, 16_782, &with(&[&[0; 64][..]; 4], &[0, 0x40, 0x80, 0xc1], &events));
+    let fine: Vec<u8> = (0..64).collect();
+    largest_joins(8, 3, 16_650, &limited(&[0; 64], &fine, &events));
 }
 
 /// The paper's P for two observers: input 1 toggles, output 2 stays.
@@ -210,7 +268,7 @@ fn refusals_in_their_order() {
     };
     refused(&good[..5], 1);
     refused(&good[..good.len() - 1], 2);
-    for kind in [0, 3, 4, 255] {
+    for kind in [0, 4, 255] {
         refused(&changed(&[(4, kind), (7, 0)]), 3);
     }
     refused(&changed(&[(5, 1)]), 3);
@@ -276,5 +334,136 @@ fn closures_by_observer() {
         let pieces: Vec<(u8, &[u8], &[u8])> = out.chunks(PIECE).take(4).map(|piece| (piece[0], &piece[8..10], &piece[72..74])).collect();
         assert_eq!(pieces, [(3, &[0, 1][..], &[0, 1][..]), (2, &[1, 0], &[0, 0]), (1, &[0, 0], &[0, 0]), (2, &[1, 0], &[0, 0])]);
         assert_eq!(output(4 * PIECE - 1, |out| (version.closure)(&record, out)), (15, vec![7; 40_000]));
+    }
+}
+
+/// Event 1, a high input, leads to state 1; event 2, a low output, stays in state 0.
+const ONCE: [(u8, u8, &[u64]); 2] = [(INPUT, HIGH, &[2, 2]), (OUTPUT, LOW, &[1, 0])];
+
+#[test]
+fn bytes_of_kind_3() {
+    let mut wanted = vec![48, 0, 0, 0, 3, 0, 0x00, 2, 0, 2, 0, 0, 0, 1, 1, 0, 0, 0x40, 2, 0, 1, 0];
+    wanted.extend([2, 2, 1, 0].map(u64::to_le_bytes).concat());
+    assert_eq!(limited(&[0, 0], &[0, 1], &ONCE).record(), wanted);
+}
+
+#[test]
+fn early_rules_by_classes() {
+    // Rule 2: event 1 leads to another fine class, then to another class.
+    told(&limited(&[0, 0], &[0, 1], &ONCE), 0, [0, 0, 0, 0, 0, 2, 0, 2]);
+    told(&limited(&[0, 1], &[0, 1], &ONCE), 102, [2, 1, 0, 1, 0, 0, 0x00, 0]);
+    // Rule 3 takes u from the class of s: state 1, of another fine class.
+    told(&limited(&[0, 0, 1], &[0, 1, 2], &[(INPUT, LOW, &[1, 4, 4])]), 103, [3, 1, 0, 0, 1, 0, 0x00, 0]);
+    // It asks for the class of t, not for its fine class.
+    told(&limited(&[0, 0], &[0, 1], &[(INPUT, LOW, &[1, 2])]), 0, [0, 0, 0, 0, 0, 2, 0, 2]);
+    // Rule 1 needs no class.
+    told(&limited(&[0, 0], &[0, 1], &[(INPUT, LOW, &[1, 0])]), 101, [1, 1, 1, 0, 0, 0, 0x00, 0]);
+}
+
+#[test]
+fn late_rules_by_fine_classes() {
+    // Rule 4 takes u from the fine class of s.
+    let three = |fine: &[u8]| limited(&[0, 0, 1], fine, &[(OUTPUT, HIGH, &[4, 0, 0])]);
+    told(&three(&[0, 1, 2]), 0, [0, 0, 0, 0, 0, 4, 0, 2]);
+    told(&three(&[0, 0, 1]), 104, [4, 1, 0, 2, 1, 4, 0x00, 0]);
+    told(&limited(&[0, 0, 0, 1], &[0, 0, 1, 2], &[(OUTPUT, HIGH, &[8, 0, 0, 0])]), 104, [4, 1, 0, 3, 1, 5, 0x00, 0]);
+    // It asks for the class of t: states 2 and 3 have one, but each its fine class. From 2 a silent step leads on, to class 2, and that is no step
+    // of state 0, so that state 1 need not follow; until it is one.
+    let five =
+        |rows: &[u64], outputs: &[u64]| limited(&[0, 0, 1, 1, 2], &[0, 0, 1, 2, 3], &[(INTERNAL, LOW, rows), (OUTPUT, LOW, outputs)]);
+    told(&five(&[4, 8, 16, 0, 0], &[0; 5]), 0, [0, 0, 0, 0, 0, 9, 0, 2]);
+    told(&five(&[20, 8, 16, 0, 0], &[0; 5]), 104, [4, 1, 0, 4, 1, 9, 0x00, 0]);
+    // Rule 5 likewise. From state 0 event 2 leads to 3, from state 1 after a silent step; 2, of the class of 3 and not of its fine class, cannot follow
+    // where 3 stays. From 0 it also leads to class 2 behind silent steps, which 1 need not do, until it does so without them.
+    told(&five(&[4, 8, 16, 0, 0], &[8, 0, 0, 8, 16]), 0, [0, 0, 0, 0, 0, 9, 0, 2]);
+    told(&five(&[4, 8, 16, 0, 0], &[24, 0, 0, 8, 16]), 105, [5, 2, 0, 4, 1, 9, 0x00, 0]);
+    // Nor need it where the silent step comes after the event.
+    told(&five(&[0, 0, 16, 0, 0], &[4, 8, 0, 0, 0]), 0, [0, 0, 0, 0, 0, 6, 0, 2]);
+}
+
+#[test]
+fn rule_5_without_silent_events() {
+    let outputs = |classes: &[u8], fine: &[u8], rows: &[u64]| limited(classes, fine, &[(OUTPUT, LOW, rows)]);
+    // The fine class of s: each its own, one for both, and one beside another.
+    told(&outputs(&[0, 0], &[0, 1], &[1, 0]), 0, [0, 0, 0, 0, 0, 2, 0, 2]);
+    told(&outputs(&[0, 0], &[0, 0], &[1, 0]), 105, [5, 1, 0, 0, 1, 2, 0x00, 0]);
+    told(&outputs(&[0, 0, 0], &[0, 0, 1], &[1, 1, 0]), 0, [0, 0, 0, 0, 0, 3, 0, 2]);
+    // The first u of the fine class, not of the class.
+    told(&outputs(&[0, 0, 0], &[0, 1, 1], &[0, 2, 0]), 105, [5, 1, 1, 1, 2, 3, 0x00, 0]);
+    // The class of t, not its fine class.
+    told(&outputs(&[0, 0, 1, 1], &[0, 0, 1, 2], &[4, 8, 0, 0]), 0, [0, 0, 0, 0, 0, 4, 0, 2]);
+}
+
+#[test]
+fn limits() {
+    // The most fine classes in one class: three, neither in the first nor in the last.
+    told(&limited(&[0, 1, 1, 1, 2, 2], &[0, 1, 2, 3, 4, 5], &[]), 0, [0, 0, 0, 0, 0, 6, 0, 3]);
+    told(&limited(&[0, 0, 1, 1], &[0, 0, 1, 1], &[]), 0, [0, 0, 0, 0, 0, 4, 0, 1]);
+    let fine: Vec<u8> = (0..64).collect();
+    told(&limited(&[0; 64], &fine, &[]), 0, [0, 0, 0, 0, 0, 64, 0, 64]);
+}
+
+#[test]
+fn refusals_of_limited_parts_in_their_order() {
+    let good = limited(&[0, 0], &[0, 1], &ONCE).record();
+    let changed = |changes: &[(usize, u8)]| {
+        let mut record = good.clone();
+        changes.iter().for_each(|&(place, byte)| record[place] = byte);
+        record
+    };
+    for (place, byte) in [(7, 0), (7, 65), (8, 2), (9, 33)] {
+        refused(&changed(&[(place, byte), (12, 1)]), 4);
+    }
+    refused(&[3, 0, 0, 0, 3, 0, 0, 1, 0], 4);
+    // The length is that of the kind, with wrong classes and without.
+    refused(&changed(&[(4, 1), (10, 1)]), 5);
+    let mut one = toggle(&[0, 1], &[]);
+    one.further.clear();
+    let mut short = one.record();
+    short[4] = 3;
+    refused(&short, 5);
+    let mut long = changed(&[(0, 49), (10, 1)]);
+    long.push(0);
+    refused(&long, 5);
+    // 6 for the classes hides 21, and this 7, 16 and 8.
+    let all = [(12, 1), (16, 3), (17, 5), (22, 5)];
+    refused(&changed(&[&[(10, 1)][..], &all].concat()), 6);
+    refused(&changed(&[&[(11, 2)][..], &all].concat()), 6);
+    refused(&changed(&all), 21);
+    refused(&changed(&[&[(13, 2)][..], &all[1..]].concat()), 21);
+    // Numbered, but across two classes: of states 0 and 1.
+    refused(&changed(&[&[(11, 1), (13, 0)][..], &all[1..]].concat()), 21);
+    refused(&changed(&all[1..]), 7);
+    refused(&changed(&all[2..]), 16);
+    refused(&changed(&[(6, 1), (22, 5)]), 16);
+    refused(&changed(&[(6, 1), (12, 1)]), 21);
+    refused(&changed(&all[3..]), 8);
+    // A fine class that comes again after another one, across two classes.
+    refused(&limited(&[0, 1, 1], &[0, 1, 0], &[]).record(), 21);
+    refused(&limited(&[0, 0, 1], &[0, 1, 0], &[]).record(), 21);
+}
+
+#[test]
+fn joins_of_limited_parts() {
+    let (a, b) = (limited(&[0, 0], &[0, 1], &[]), limited(&[0, 0, 1], &[0, 1, 2], &[]));
+    let one = |table: &Table| Table { fine: None, ..table.clone() };
+    // B has two classes and three fine ones; without these, its classes.
+    let cases = [
+        (&a, &b, [0, 0, 1, 0, 0, 1, 0, 1, 2, 3, 4, 5]),
+        (&a, &one(&b), [0, 0, 1, 0, 0, 1, 0, 0, 1, 2, 2, 3]),
+        (&one(&a), &b, [0, 0, 1, 0, 0, 1, 0, 1, 2, 0, 1, 2]),
+    ];
+    let list = with(&[&[0], &[0]], &[LOW, TOP], &[]).record();
+    let other = Table { observer: TOP, ..b.clone() }.record();
+    for version in &VERSIONS {
+        for (a, b, columns) in &cases {
+            let (answer, out) = output(22, |out| (version.join)(&a.record(), &b.record(), out));
+            let wanted = [&[16, 0, 0, 0, 3, 0, 0x00, 6, 0, 0][..], columns].concat();
+            assert_eq!((answer, &out[..22]), (0, &wanted[..]), "{}", version.name);
+            assert_eq!(output(21, |out| (version.join)(&a.record(), &b.record(), out)), (15, vec![7; 40_000]), "{}", version.name);
+        }
+        for (a, b) in [(&a.record(), &list), (&list, &a.record()), (&a.record(), &other), (&other, &one(&a).record())] {
+            assert_eq!(output(40_000, |out| (version.join)(a, b, out)), (9, vec![7; 40_000]), "{}", version.name);
+        }
     }
 }
