@@ -66,7 +66,7 @@ extern "C" {
  *
  * record may be null only where len is 0; otherwise it points to len readable bytes. The call reads nothing else, keeps
  * nothing, takes no lock, and may be made by several threads at once. It needs less
- * than 10 KB of stack: 4,920 bytes were measured on records of 64 states and 32 events, 8,056 on a first call, in which the loader
+ * than 10 KB of stack: 5,096 bytes were measured on records of 64 states and 32 events, 8,248 on a first call, in which the loader
  * resolves memset. */
 uint32_t hookup_check(const uint8_t *record, size_t len);
 
@@ -83,7 +83,7 @@ uint32_t hookup_check(const uint8_t *record, size_t len);
  *
  * out may not overlap a record; a and b may be the same bytes. A pointer may be null only where its length is 0. The call reads and
  * writes nothing else, keeps nothing, takes no lock, and may be made by several threads at once. It needs less than
- * 12 KB of stack: 7,784 bytes were measured on full records, 10,936 on a first call. */
+ * 12 KB of stack: 7,944 bytes were measured on full records, 11,128 on a first call. */
 uint32_t hookup_join(const uint8_t *a, size_t alen, const uint8_t *b, size_t blen, uint8_t *out, size_t outlen);
 
 /* Writes, for a debugger, where silent steps lead from each state of a part, for each observer of the record. An event is silent if it is
@@ -104,8 +104,8 @@ uint32_t hookup_join(const uint8_t *a, size_t alen, const uint8_t *b, size_t ble
  * The bytes of out behind the last piece stay as they were.
  *
  * out may not overlap the record. A pointer may be null only where its length is 0. The call reads and writes nothing else, keeps
- * nothing, takes no lock, and may be made by several threads at once. It needs less than 6 KB of stack: 784 bytes were measured on
- * records of 64 states and 32 events, 3,896 on a first call. */
+ * nothing, takes no lock, and may be made by several threads at once. It needs less than 6 KB of stack: 1,944 bytes were measured on
+ * records of 64 states and 32 events, 5,112 on a first call. */
 uint32_t hookup_closure(const uint8_t *record, size_t len, uint8_t *out, size_t outlen);
 
 /* What hookup_explain writes: eight numbers of eight bytes, lowest byte first, as they lie in memory on x86-64. Where the part passes, the
@@ -131,8 +131,8 @@ struct hookup_explanation {
  * bytes than that, the answer for a pass or a break is HOOKUP_NO_ROOM and nothing is written.
  *
  * out may not overlap the record. A pointer may be null only where its length is 0. The call reads and writes nothing else, keeps
- * nothing, takes no lock, and may be made by several threads at once. It needs less than 10 KB of stack: 4,936 bytes were
- * measured on records of 64 states and 32 events, 8,120 on a first call. */
+ * nothing, takes no lock, and may be made by several threads at once. It needs less than 10 KB of stack: 5,112 bytes were
+ * measured on records of 64 states and 32 events, 8,248 on a first call. */
 uint32_t hookup_explain(const uint8_t *record, size_t len, uint8_t *out, size_t outlen);
 
 #ifdef __cplusplus

@@ -127,6 +127,12 @@ mod tests {
         agree_on(32, make::calls_on_lists);
     }
 
+    /// The same with limited parts.
+    #[test]
+    fn shelf_and_bench_agree_on_limited_parts() {
+        agree_on(33, make::calls_on_limited);
+    }
+
     fn agree_on(seed: u64, made: fn(&mut Rng, usize) -> Vec<Call>) {
         let mut rng = Rng::new(seed);
         for _ in 0..150 {

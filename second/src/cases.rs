@@ -3,10 +3,11 @@
 use crate::category::{self, Tally};
 use crate::category_internal;
 use crate::category_label::{self, BAD_LEVELS, GOOD_LEVELS};
+use crate::category_limited;
 use crate::category_list::{self, LARGEST, LARGEST_BROKEN, WRONG_COUNTS};
 use crate::check;
 use crate::make::{self, Wanted};
-use crate::record::{self, FIRST_AT, FORMS, KIND_AT, MOST_LISTED, ORDER, STATE_COUNT_AT};
+use crate::record::{self, kind_can_get, FIRST_AT, FORMS, KIND_AT, MOST_LISTED, ORDER, STATE_COUNT_AT};
 use crate::rng::Rng;
 
 /// How many inputs a collection may try before it gives up; a run then fails for want of a category.
@@ -47,8 +48,8 @@ pub fn refused(rng: &mut Rng, minimum: usize) -> Vec<Vec<u8>> {
         let n = if rng.chance(1, 10) { rng.range(9, 64) } else { rng.range(1, 8) };
         let m = if rng.chance(1, 10) { rng.range(7, 32) } else { rng.range(0, 6) };
         let refusal = ORDER[round % ORDER.len()];
-        let several = refusal == 20 || rng.chance(1, 4);
-        let mut bytes = record::write(&passing_for(rng, n, m, several));
+        let kind = kind_for(rng, &[refusal], &[1, 1, 2, 3]);
+        let mut bytes = record::write(&make::passing_of_kind(rng, kind, n, m));
         make::damage(rng, &mut bytes, refusal);
         let names = category::of_record(&bytes);
         keep_if_wanted(&mut tally, &mut kept, bytes, &names);
@@ -56,14 +57,11 @@ pub fn refused(rng: &mut Rng, minimum: usize) -> Vec<Vec<u8>> {
     kept
 }
 
-/// A passing part of this size, for one observer or for several.
-fn passing_for(rng: &mut Rng, n: usize, m: usize, several: bool) -> record::Part {
-    if several {
-        let count = make::any_count(rng);
-        make::list_of_size(rng, n, m, count)
-    } else {
-        make::passing_of_size(rng, n, m)
-    }
+/// One of these kinds of records, or the one that can get these refusals.
+fn kind_for(rng: &mut Rng, refusals: &[u32], kinds: &[u16]) -> u16 {
+    let can_get_all = |kind: u16| refusals.iter().all(|&refusal| kind_can_get(kind, refusal));
+    let drawn = rng.pick(kinds);
+    [drawn].into_iter().chain(FORMS.iter().map(|form| form.kind)).find(|&kind| can_get_all(kind)).unwrap()
 }
 
 /// Records for the categories of levels: each bad level alone, then bad ones at each place.
@@ -97,7 +95,10 @@ fn one_mislabelled(rng: &mut Rng, round: usize) -> Vec<u8> {
         _ => rng.range(3, 5),
     };
     let n = rng.range(3, 5);
-    let part = passing_or_breaking(rng, n, m);
+    let mut part = passing_or_breaking(rng, n, m);
+    if rng.chance(1, 4) {
+        part = make::limited(rng, &part);
+    }
     let mut whose: Vec<usize> = match round % 8 {
         0 | 3 => vec![0],
         1 | 4 => vec![1],
@@ -115,7 +116,7 @@ fn one_mislabelled(rng: &mut Rng, round: usize) -> Vec<u8> {
         make::label(&mut bytes, place, level);
     }
     if !is_good && rng.chance(1, 3) {
-        let refusal = rng.pick(&[6, 7, 8]);
+        let refusal = rng.pick(&[6, 21, 7, 8]);
         make::damage(rng, &mut bytes, refusal);
     }
     bytes
@@ -136,14 +137,26 @@ fn passing_or_breaking(rng: &mut Rng, n: usize, m: usize) -> record::Part {
 /// Two reasons to stop, the earlier one first; none stands for a break.
 pub type Reasons = (u32, Option<u32>);
 
-/// Every two reasons.
-pub fn each_two_reasons() -> Vec<Reasons> {
+/// Every two reasons that a record of this kind can have.
+pub fn each_two_reasons_of(kind: u16) -> Vec<Reasons> {
+    let order: Vec<u32> = ORDER.into_iter().filter(|&number| kind_can_get(kind, number)).collect();
     let mut reasons = Vec::new();
-    for earlier in 0..ORDER.len() {
-        for later in earlier + 1..ORDER.len() {
-            reasons.push((ORDER[earlier], Some(ORDER[later])));
+    for earlier in 0..order.len() {
+        for later in earlier + 1..order.len() {
+            reasons.push((order[earlier], Some(order[later])));
         }
-        reasons.push((ORDER[earlier], None));
+        reasons.push((order[earlier], None));
+    }
+    reasons
+}
+
+/// Every two reasons that some record can have.
+pub fn each_two_reasons() -> Vec<Reasons> {
+    let mut reasons: Vec<Reasons> = Vec::new();
+    for form in FORMS {
+        let mut others = each_two_reasons_of(form.kind);
+        others.retain(|two| !reasons.contains(two));
+        reasons.extend(others);
     }
     reasons
 }
@@ -153,22 +166,24 @@ pub fn earlier_refusals() -> Vec<u32> {
     ORDER[..ORDER.len() - 1].to_vec()
 }
 
-/// Two damages at once, with the reasons that are meant. Refusal 20 needs several observers.
+/// Two damages at once, with the reasons that are meant, on a record of kind 1 where it can have them.
 pub fn twice_damaged(rng: &mut Rng) -> (Vec<u8>, Reasons) {
     let reasons = rng.pick(&each_two_reasons());
-    (damaged_for(rng, reasons, reasons.0 == 20 || reasons.1 == Some(20)), reasons)
+    let refusals: Vec<u32> = [Some(reasons.0), reasons.1].into_iter().flatten().collect();
+    let kind = kind_for(rng, &refusals, &[1]);
+    (damaged_for(rng, reasons, kind), reasons)
 }
 
-/// The same on a record of several observers, whatever the reasons.
-pub fn twice_damaged_list(rng: &mut Rng) -> (Vec<u8>, Reasons) {
-    let reasons = rng.pick(&each_two_reasons());
-    (damaged_for(rng, reasons, true), reasons)
+/// The same on a record of this kind.
+pub fn twice_damaged_of(rng: &mut Rng, kind: u16) -> (Vec<u8>, Reasons) {
+    let reasons = rng.pick(&each_two_reasons_of(kind));
+    (damaged_for(rng, reasons, kind), reasons)
 }
 
-fn damaged_for(rng: &mut Rng, (earlier, later): Reasons, several: bool) -> Vec<u8> {
+fn damaged_for(rng: &mut Rng, (earlier, later): Reasons, kind: u16) -> Vec<u8> {
     let n = rng.range(2, 6);
     let m = rng.range(2, 5);
-    let mut part = passing_for(rng, n, m, several);
+    let mut part = make::passing_of_kind(rng, kind, n, m);
     if later.is_none() {
         part = make::changed_steps(rng, &part);
     }
@@ -356,16 +371,11 @@ pub fn lists(rng: &mut Rng, minimum: usize) -> Vec<Vec<u8>> {
 /// A passing record of each kind with each other kind, described or not.
 fn other_kinds(rng: &mut Rng) -> Vec<Vec<u8>> {
     let mut made = Vec::new();
-    for several in [false, true] {
+    for form in FORMS {
         let (n, m) = (rng.range(1, 4), rng.range(0, 3));
-        let bytes = record::write(&passing_for(rng, n, m, several));
-        let above = loop {
-            let kind = rng.range(256, 65_535) as u16;
-            if kind != 257 && kind != 258 {
-                break kind;
-            }
-        };
-        let undescribed = [0, 3, rng.range(4, 255) as u16, 257, 258, above];
+        let bytes = record::write(&make::passing_of_kind(rng, form.kind, n, m));
+        let undescribed =
+            [0, 4, rng.range(5, 255) as u16, 257, 258, 259, rng.pick(&[256, 260]), rng.range(260, 65_535) as u16];
         for kind in undescribed.into_iter().chain(FORMS.iter().map(|form| form.kind)) {
             let mut changed = bytes.clone();
             changed[KIND_AT..KIND_AT + 2].copy_from_slice(&kind.to_le_bytes());
@@ -445,7 +455,7 @@ fn one_list(rng: &mut Rng, round: usize) -> Vec<u8> {
                 None => record::write(&make::breaking_list(rng)),
             }
         }
-        8 => twice_damaged_list(rng).0,
+        8 => twice_damaged_of(rng, 2).0,
         9 => with_raw_count(rng),
         10 => {
             let mut bytes = small(rng);
@@ -481,6 +491,87 @@ fn with_raw_count(rng: &mut Rng) -> Vec<u8> {
         bytes[STATE_COUNT_AT] = rng.pick(&[0, 65, 255]);
     }
     bytes
+}
+
+/// Records for the categories of limited parts.
+pub fn limited(rng: &mut Rng, minimum: usize) -> Vec<Vec<u8>> {
+    let mut tally = Tally::new();
+    for name in category_limited::names() {
+        tally.need(&name, category_limited::least_of(&name, minimum));
+    }
+    let mut kept = Vec::new();
+    for round in 0..MOST_TRIES {
+        if tally.too_few().is_empty() {
+            break;
+        }
+        let lacks_places = category_limited::PLACES.iter().any(|name| tally.lacks(name));
+        let bytes = if round % 20 == 0 && tally.lacks(category_limited::LARGEST) {
+            record::write(&make::limited_of_size(rng, 64, 32))
+        } else if round % 2 == 0 && lacks_places {
+            record::write(&make::breaking_behind_leaks(rng))
+        } else {
+            one_limited(rng, round)
+        };
+        let names = category_limited::of_record(&bytes, check::check(&bytes));
+        keep_if_wanted(&mut tally, &mut kept, bytes, &names);
+    }
+    kept
+}
+
+/// A record of kind 3: passing, breaking, or damaged in one way or two.
+fn one_limited(rng: &mut Rng, round: usize) -> Vec<u8> {
+    let turn = round / 12;
+    let (n, m) = (rng.range(3, 6), rng.range(3, 5));
+    let passing = |rng: &mut Rng| record::write(&make::limited_of_size(rng, n, m));
+    match round % 12 {
+        0 => record::write(&make::any_limited(rng)),
+        1 => {
+            let (n, m) = if rng.chance(1, 2) { (1, rng.range(0, 4)) } else { (rng.range(1, 6), 0) };
+            record::write(&make::limited_of_size(rng, n, m))
+        }
+        2 => {
+            let limit = if turn % 10 == 9 { 64 } else { turn % 10 + 1 };
+            let m = rng.range(0, 3);
+            record::write(&make::limited_to(rng, limit, m))
+        }
+        3..=5 => {
+            let rule = 1 + turn as u32 % 5;
+            match make::breaking_limited_by(rng, rule, n, m) {
+                Some(part) => record::write(&part),
+                None => record::write(&make::breaking_limited(rng)),
+            }
+        }
+        6 => record::write(&make::breaking_limited(rng)),
+        7 => {
+            let n = if turn % 4 == 0 { 64 } else { n };
+            let mut bytes = record::write(&make::limited_of_size(rng, n, 1));
+            make::damage_fine(rng, &mut bytes);
+            bytes
+        }
+        8 => {
+            let mut bytes = passing(rng);
+            if rng.chance(1, 2) {
+                make::exchange_columns(&mut bytes);
+            } else {
+                make::cross(rng, &mut bytes);
+            }
+            bytes
+        }
+        9 => twice_damaged_of(rng, 3).0,
+        10 => {
+            let mut bytes = passing(rng);
+            if rng.chance(2, 3) {
+                make::damage_fine(rng, &mut bytes);
+            }
+            make::damage(rng, &mut bytes, [4, 5, 6, 7, 16, 8][turn % 6]);
+            bytes
+        }
+        _ => {
+            let mut bytes = record::write(&make::breaking_limited(rng));
+            make::damage_fine(rng, &mut bytes);
+            bytes
+        }
+    }
 }
 
 /// Records on which a wrong reading of the rules would give another verdict.
@@ -560,24 +651,42 @@ mod tests {
             }
         }
         assert!(tally.too_few().is_empty(), "{:?}", tally.too_few());
-        // The other collections too, with 20 among the refusals.
+        // The other collections too, with 20 and 21 among the refusals.
         fills(&refused(&mut rng, 5), &category::refused_names(), 5);
         fills(&mislabelled(&mut rng, 5), &category_label::names(), 5);
     }
 
-    /// Two damages to a list: the earlier refusal comes for each two reasons.
     #[test]
-    fn lists_are_damaged_twice() {
-        let mut rng = Rng::new(70);
-        let name = |(earlier, later): Reasons| format!("{} and {:?}", earlier, later);
-        let mut tally = tally_of(&each_two_reasons().into_iter().map(name).collect::<Vec<_>>(), 5);
-        for _ in 0..4000 {
-            let (bytes, reasons) = twice_damaged_list(&mut rng);
-            if record::first_refusal(&bytes) == Some(reasons.0) {
-                tally.count(&name(reasons));
+    fn limited_parts_fill_their_categories() {
+        let mut rng = Rng::new(107);
+        let mut tally = Tally::new();
+        for name in category_limited::names() {
+            tally.need(&name, category_limited::least_of(&name, 5));
+        }
+        for bytes in limited(&mut rng, 5) {
+            for name in category_limited::of_record(&bytes, check::check(&bytes)) {
+                tally.count(&name);
             }
         }
         assert!(tally.too_few().is_empty(), "{:?}", tally.too_few());
+    }
+
+    /// Two damages to a record: the earlier refusal comes for each two reasons.
+    #[test]
+    fn records_are_damaged_twice() {
+        let name = |(earlier, later): Reasons| format!("{} and {:?}", earlier, later);
+        for form in FORMS {
+            let mut rng = Rng::new(70);
+            let names: Vec<String> = each_two_reasons_of(form.kind).into_iter().map(name).collect();
+            let mut tally = tally_of(&names, 5);
+            for _ in 0..4000 {
+                let (bytes, reasons) = twice_damaged_of(&mut rng, form.kind);
+                if record::first_refusal(&bytes) == Some(reasons.0) {
+                    tally.count(&name(reasons));
+                }
+            }
+            assert!(tally.too_few().is_empty(), "kind {}: {:?}", form.kind, tally.too_few());
+        }
     }
 
     #[test]

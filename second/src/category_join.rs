@@ -14,7 +14,7 @@ pub fn is_main(name: &str) -> bool {
 const JOINED: &str = "joined";
 const SHARED: &str = "joined, shared event";
 
-/// The longest record of one observer.
+/// The longest record of kind 1.
 const LONGEST: usize = 16_586;
 
 fn kind_name(kind: Kind) -> &'static str {

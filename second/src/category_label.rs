@@ -17,6 +17,7 @@ pub fn names() -> Vec<String> {
     let mut names = Vec::new();
     for name in [
         "refused 6, mislabelled too",
+        "refused 21, mislabelled too",
         "refused 7, mislabelled too",
         "refused 16, stray bit too",
         "refused 16, several levels",
@@ -61,7 +62,7 @@ pub fn of_record(bytes: &[u8]) -> Vec<String> {
     let mut names = match first_refusal(bytes) {
         None => good_names(bytes),
         Some(16) => refused_names(bytes),
-        Some(number @ 6..=7) if refusal_16(bytes) => vec![format!("refused {}, mislabelled too", number)],
+        Some(number @ (6 | 21 | 7)) if refusal_16(bytes) => vec![format!("refused {}, mislabelled too", number)],
         Some(_) => Vec::new(),
     };
     names.extend(readings_that_differ(bytes).into_iter().map(wrong_reading_name));

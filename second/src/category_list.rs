@@ -4,7 +4,7 @@ use crate::category::Names;
 use crate::check::{self, break_for, Break, Verdict};
 use crate::record::{
     applies, column, fields, incomparable, is_mislabelled, is_misnumbered, longest, observer_levels, read, u16_at,
-    u32_at, Form, Layout, Part, FEWEST_LISTED, FIRST_AT, FORMS, HEADER, KIND_AT, MOST_LISTED,
+    u32_at, First, Form, Layout, Part, FEWEST_LISTED, FIRST_AT, FORMS, HEADER, KIND_AT, MOST_LISTED,
 };
 use crate::wrong_list::{readings_that_differ, READINGS};
 
@@ -33,13 +33,14 @@ pub fn counts() -> Vec<usize> {
 pub const WRONG_COUNTS: [usize; 4] = [0, 1, 5, 255];
 
 /// Kinds that are not described. Some have a low byte that is a kind described.
-pub const OTHER_KINDS: [(&str, fn(u16) -> bool); 6] = [
+pub const OTHER_KINDS: [(&str, fn(u16) -> bool); 7] = [
     ("kind 0", |kind| kind == 0),
-    ("kind 3", |kind| kind == 3),
-    ("kind from 4 to 255", |kind| (4..256).contains(&kind)),
+    ("kind 4", |kind| kind == 4),
+    ("kind from 5 to 255", |kind| (5..256).contains(&kind)),
     ("kind 257", |kind| kind == 257),
     ("kind 258", |kind| kind == 258),
-    ("another kind above 255", |kind| kind > 255 && kind != 257 && kind != 258),
+    ("kind 259", |kind| kind == 259),
+    ("another kind above 255", |kind| kind > 255 && !(257..=259).contains(&kind)),
 ];
 
 /// Every category.
@@ -50,12 +51,15 @@ pub fn names() -> Vec<String> {
             names.push(format!("refused 3, {}, passes as kind {}", kind, form.kind));
         }
     }
+    for form in FORMS {
+        for other in FORMS.iter().filter(|other| other.kind != form.kind) {
+            names.push(length_name(form.kind, other.kind));
+        }
+    }
     for name in [
         "refused 4, kind 2",
         "refused 4, kind 2, count out of range too",
-        "refused 5, kind 1, the length is kind 2's",
         "refused 5, kind 2",
-        "refused 5, kind 2, the length is kind 1's",
         "refused 5, kind 2, the length is that of another count in range",
         "refused 5, kind 2, count out of range too",
         "refused 5, kind 2, observers that do not rise too",
@@ -147,28 +151,40 @@ fn wrong_reading_name(name: &str) -> String {
     format!("wrong reading of lists differs: {}", name)
 }
 
+/// A record of this kind that has another's length.
+fn length_name(kind: u16, other: u16) -> String {
+    format!("refused 5, kind {}, the length is kind {}'s", kind, other)
+}
+
 fn kind_of(bytes: &[u8]) -> u16 {
     u16_at(bytes, KIND_AT)
 }
 
+/// Is this a record of that kind?
+pub fn is_of_kind(bytes: &[u8], kind: u16) -> bool {
+    bytes.len() >= HEADER && kind_of(bytes) == kind
+}
+
 /// Is this a record of kind 2?
 pub fn lists_observers(bytes: &[u8]) -> bool {
-    bytes.len() >= HEADER && kind_of(bytes) == 2
+    is_of_kind(bytes, 2)
 }
 
 /// The categories of a record's bytes, given Check's verdict.
 pub fn of_record(bytes: &[u8], verdict: Verdict) -> Vec<String> {
-    if verdict == Verdict::Refused(3) {
-        return kind_names(bytes);
-    }
-    if !lists_observers(bytes) {
-        return one_observer_names(bytes, verdict);
-    }
     let mut names = match verdict {
+        Verdict::Refused(3) => return kind_names(bytes),
+        Verdict::Refused(5) => length_names(bytes),
+        _ => Vec::new(),
+    };
+    if !lists_observers(bytes) {
+        return names;
+    }
+    names.extend(match verdict {
         Verdict::Refused(number) => refused_names(bytes, number),
         Verdict::Pass => pass_names(&read(bytes).unwrap()),
         Verdict::Breaks(found) => break_names(&read(bytes).unwrap(), found),
-    };
+    });
     let is_small = bytes.len() >= HEADER + 4 && Layout::of(bytes).n <= MOST_STATES_MISREAD;
     if is_small {
         names.extend(readings_that_differ(bytes, check::number(verdict)).into_iter().map(wrong_reading_name));
@@ -196,12 +212,13 @@ fn has_length_of(bytes: &[u8], form: Form, observers: usize) -> bool {
     Layout { form, observers, ..Layout::of(bytes) }.body_length() == u32_at(bytes, 0) as usize
 }
 
-/// A record of kind 1 that might be taken for one of kind 2.
-fn one_observer_names(bytes: &[u8], verdict: Verdict) -> Vec<String> {
+/// Refusal 5, where the record might be taken for one of another kind.
+fn length_names(bytes: &[u8]) -> Vec<String> {
     let mut names = Names::default();
-    if verdict == Verdict::Refused(5) {
-        let fits = has_length_of(bytes, FORMS[1], bytes[FIRST_AT] as usize);
-        names.add(fits, "refused 5, kind 1, the length is kind 2's");
+    for form in FORMS {
+        let observers = if form.first == First::Count { bytes[FIRST_AT] as usize } else { 1 };
+        let fits = form.kind != kind_of(bytes) && has_length_of(bytes, form, observers);
+        names.add(fits, &length_name(kind_of(bytes), form.kind));
     }
     names.0
 }
@@ -234,7 +251,6 @@ fn refused_names(bytes: &[u8], number: u32) -> Vec<String> {
 fn size_names(bytes: &[u8], count: usize) -> Vec<String> {
     let mut names = Names(vec!["refused 5, kind 2".to_string()]);
     let is_other_count = counts().into_iter().any(|other| has_length_of(bytes, FORMS[1], other));
-    names.add(has_length_of(bytes, FORMS[0], 1), "refused 5, kind 2, the length is kind 1's");
     names.add(is_other_count, "refused 5, kind 2, the length is that of another count in range");
     names.add(is_out_of_range(count), "refused 5, kind 2, count out of range too");
     names.add(WRONG_COUNTS.contains(&count), &format!("refused 5, kind 2, count {}", count));
@@ -439,7 +455,7 @@ mod tests {
         assert_eq!(names_of(&[0, 0, 0, 0, 2, 0]), ["refused 4, kind 2", "refused 4, kind 2, count out of range too"]);
     }
 
-    /// P with other kinds. P for two, its kind taken for 1, has a wrong length.
+    /// P, P for two and the guard with other kinds.
     #[test]
     fn other_kinds_by_hand() {
         let with_kind = |bytes: &[u8], kind: u16| {
@@ -449,23 +465,28 @@ mod tests {
         };
         for (kind, name) in [
             (0, "kind 0"),
-            (3, "kind 3"),
-            (4, "kind from 4 to 255"),
-            (255, "kind from 4 to 255"),
+            (4, "kind 4"),
+            (5, "kind from 5 to 255"),
+            (255, "kind from 5 to 255"),
             (256, "another kind above 255"),
             (257, "kind 257"),
             (258, "kind 258"),
+            (259, "kind 259"),
             (0xFFFF, "another kind above 255"),
         ] {
-            assert_eq!(with_kind(&examples::p(), kind), [format!("refused 3, {}, passes as kind 1", name)]);
-            assert_eq!(with_kind(&examples::p_for_two(), kind), [format!("refused 3, {}, passes as kind 2", name)]);
+            for (passes_as, bytes) in [(1, examples::p()), (2, examples::p_for_two()), (3, examples::guard())] {
+                assert_eq!(with_kind(&bytes, kind), [format!("refused 3, {}, passes as kind {}", name, passes_as)]);
+            }
         }
-        assert_eq!(with_kind(&examples::p_with_classes_0_1(), 3), [""; 0]);
+        assert_eq!(with_kind(&examples::p_with_classes_0_1(), 4), [""; 0]);
+        assert_eq!(with_kind(&examples::p(), 3), ["refused 5, kind 3, the length is kind 1's"]);
+        assert_eq!(with_kind(&examples::guard(), 1), ["refused 5, kind 1, the length is kind 3's"]);
+        assert_eq!(with_kind(&examples::p_for_two(), 3), ["refused 5, kind 3, the length is kind 2's"]);
         assert_eq!(
             with_kind(&examples::p(), 2),
             [
-                "refused 5, kind 2",
                 "refused 5, kind 2, the length is kind 1's",
+                "refused 5, kind 2",
                 "refused 5, kind 2, count out of range too",
                 "refused 5, kind 2, count 0"
             ]

@@ -230,7 +230,7 @@ pub fn of_join(a: &[u8], b: &[u8], room: usize, answer: JoinAnswer) -> Vec<Strin
     if room + 1 == record::write(&joined).len() {
         names.push("refused 15, several observers, one byte short".to_string());
     }
-    if room == record::write(&Part { observers: joined.observers[..1].to_vec(), ..joined }).len() {
+    if room == record::write(&joined.as_kind_1()).len() {
         names.push("refused 15, several observers, room for one column".to_string());
     }
     names

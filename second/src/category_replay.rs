@@ -3,8 +3,9 @@
 use crate::answer::Answer;
 use crate::category;
 use crate::category_join::{self, clashes};
-use crate::category_list_calls::{of_pair, pair_names};
-use crate::category_list_replay as list;
+use crate::category_kind_replay as kind;
+use crate::category_limited_calls as limited_calls;
+use crate::category_list_calls as list_calls;
 use crate::check::{self, Verdict};
 use crate::examples;
 use crate::join;
@@ -93,10 +94,10 @@ pub fn names() -> Vec<String> {
     for name in category_join::INTERNAL {
         names.push(format!("hookup, {}", name));
     }
-    for name in pair_names() {
+    for name in list_calls::pair_names().into_iter().chain(limited_calls::pair_names()) {
         names.push(format!("hookup, {}", name));
     }
-    names.extend(list::names());
+    names.extend(kind::names());
     names
 }
 
@@ -206,14 +207,14 @@ fn operation_names(capacity: usize, held: &mut Vec<Held>, done: &Done) -> Vec<St
             names.push("clear".to_string());
             if !held.is_empty() {
                 names.push("clear behind loads".to_string());
-                names.extend(list::of_clear(&parts_of(held)));
+                names.extend(kind::of_clear(&parts_of(held)));
             }
             held.clear();
         }
         (Operation::Clear, _) => names.push("clear refused 12".to_string()),
         (Operation::Load(record), Effect::Answer(answer)) => {
             let verdict = verdict_of_load(*answer).unwrap_or_else(|| check::check(record));
-            names.extend(list::of_load(record, *answer, verdict, room, no_room));
+            names.extend(kind::of_load(record, *answer, verdict, room, no_room));
             if *answer == Answer::Refused(12) {
                 names.push("load refused 12".to_string());
                 if verdict != Verdict::Pass {
@@ -257,7 +258,7 @@ fn operation_names(capacity: usize, held: &mut Vec<Held>, done: &Done) -> Vec<St
         }
         (Operation::Count, Effect::Count(Some(_))) => {
             names.push("count".to_string());
-            names.extend(list::of_count(&parts_of(held)));
+            names.extend(kind::of_count(&parts_of(held)));
         }
         (Operation::Count, _) => names.push("count refused 12".to_string()),
         (Operation::Part(i), Effect::Part(bytes)) => {
@@ -267,7 +268,7 @@ fn operation_names(capacity: usize, held: &mut Vec<Held>, done: &Done) -> Vec<St
                 if named.joined {
                     names.push("part of a joined record".to_string());
                 }
-                names.extend(list::of_part(&named.part, named.joined));
+                names.extend(kind::of_part(&named.part, named.joined));
             } else if done.end_before.is_none() {
                 names.push("part, 12".to_string());
             } else {
@@ -304,14 +305,14 @@ fn hookup_names(held: &mut Vec<Held>, i: usize, j: usize, answer: Answer, room: 
             add("hookup refused 13, no room either");
         }
         let part = |i: usize| held.get(i).map(|named| &named.part);
-        names.extend(list::of_missing(part(i), part(j)));
+        names.extend(kind::of_missing(part(i), part(j)));
         return names;
     }
     let a = &held[i].part;
     let b = &held[j].part;
-    let of_lists = list::of_hookup((i, a, held[i].joined), (j, b, held[j].joined), answer, room, no_room);
+    let of_kinds = kind::of_hookup((i, a, held[i].joined), (j, b, held[j].joined), answer, room, no_room);
     if answer != Answer::Refused(15) {
-        for name in of_pair(a, b) {
+        for name in list_calls::of_pair(a, b).into_iter().chain(limited_calls::of_pair(a, b)) {
             add(&format!("hookup, {}", name));
         }
     }
@@ -384,6 +385,6 @@ fn hookup_names(held: &mut Vec<Held>, i: usize, j: usize, answer: Answer, room: 
         }
         _ => unreachable!(),
     }
-    names.extend(of_lists);
+    names.extend(of_kinds);
     names
 }

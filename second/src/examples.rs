@@ -1,5 +1,5 @@
 //! The examples of document 01, "Examples", as bytes; P with a level that request d refuses, P and T with internal events
-//! for request i, and P, Q, T and Z for several observers, for request k.
+//! for request i, P, Q, T and Z for several observers, for request k, and T, Z and a guard that leaks, for request l.
 
 use crate::record::{self, Event, Kind, Observer, Part};
 
@@ -143,15 +143,14 @@ pub fn q_for_two() -> Vec<u8> {
 /// The part for observers of these levels, with one grouping for all of them.
 fn for_levels(part: &Part, levels: &[u8]) -> Part {
     let classes = &part.observers[0].classes;
-    let observers = levels.iter().map(|&level| Observer { level, classes: classes.clone() }).collect();
+    let observers = levels.iter().map(|&level| Observer::new(level, classes.clone())).collect();
     Part { observers, ..part.clone() }
 }
 
 /// T with event 1 an output of level 0x40, for the observers 0x00, to whom it is high, and 0x40, to whom it is low.
 pub fn t_for_two(first: [u8; 3], second: [u8; 3]) -> Part {
     let mut part = t(Kind::Output, 0x40);
-    part.observers =
-        vec![Observer { level: 0x00, classes: first.to_vec() }, Observer { level: 0x40, classes: second.to_vec() }];
+    part.observers = vec![Observer::new(0x00, first.to_vec()), Observer::new(0x40, second.to_vec())];
     part
 }
 
@@ -163,14 +162,52 @@ pub fn lower_rule_at_the_second() -> Part {
         Event { identifier: 1, kind: Kind::Output, level: 0x40 },
         Event { identifier: 2, kind: Kind::Input, level: 0x80 },
     ];
-    let observers =
-        vec![Observer { level: 0x00, classes: vec![0, 1, 1] }, Observer { level: 0x40, classes: vec![0, 0, 1] }];
+    let observers = vec![Observer::new(0x00, vec![0, 1, 1]), Observer::new(0x40, vec![0, 0, 1])];
     let mut part = Part::for_observers(observers, 0, events);
     part.steps[0][1][0] = true;
     part.steps[1][0][0] = true;
     part.steps[1][1][2] = true;
     part.steps[1][2][2] = true;
     part
+}
+
+/// A limited part, byte by byte: a guard of two states in one coarse class and two fine ones. The high input 1 leads to
+/// state 1, and the low output 2 is possible in state 0 alone: it passes, and the output tells that the input has not come.
+pub fn guard() -> Vec<u8> {
+    let mut bytes = vec![
+        0x30, 0x00, 0x00, 0x00, 0x03, 0x00, 0x00, 0x02, 0x00, 0x02, 0x00, 0x00, 0x00, 0x01, 0x01, 0x00, 0x00, 0x40,
+        0x02, 0x00, 0x01, 0x00,
+    ];
+    for row in [2u8, 2, 1, 0] {
+        bytes.extend_from_slice(&[row, 0, 0, 0, 0, 0, 0, 0]);
+    }
+    bytes
+}
+
+/// The same with some bytes changed, each given with its offset.
+pub fn guard_with(changes: &[(usize, u8)]) -> Vec<u8> {
+    let mut bytes = guard();
+    for &(at, byte) in changes {
+        bytes[at] = byte;
+    }
+    bytes
+}
+
+/// Z as a limited part, byte by byte.
+pub fn z_limited() -> Vec<u8> {
+    vec![6, 0, 0, 0, 3, 0, 0, 1, 0, 0, 0, 0]
+}
+
+/// The part with a fine column.
+pub fn with_fine(part: &Part, fine: &[u8]) -> Part {
+    let mut limited = part.clone();
+    limited.observers[0].fine = Some(fine.to_vec());
+    limited
+}
+
+/// T with event 1 a high output, and with a fine column.
+pub fn t_limited(fine: [u8; 3]) -> Vec<u8> {
+    record::write(&with_fine(&t(Kind::Output, 0x40), &fine))
 }
 
 /// Source document 001, the first counterexample: a machine that counts high events until `stop` and then says

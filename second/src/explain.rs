@@ -1,5 +1,5 @@
 //! The explanation: Check's answer in eight numbers, and among them how many states were taken up.
-//! Document 02, requests f, i and k, and the C header, `hookup_explain`.
+//! Document 02, requests f, i, k and l, and the C header, `hookup_explain`.
 
 use crate::check::{self, found_by, quiet_reaches, told, Break, Verdict};
 use crate::record;
@@ -68,9 +68,9 @@ pub fn check_and_count(bytes: &[u8]) -> (Verdict, u64) {
     (verdict, sum_of_sizes(&quiet_reaches(told(&part, found_by(verdict)))))
 }
 
-/// The C header: the numbers for a pass.
-fn of_pass(taken: u64) -> Explanation {
-    Explanation { rule: 0, event: 0, s: 0, t: 0, u: 0, taken, observer: 0, limit: 1 }
+/// The C header: the numbers for a pass, with the part's limit.
+fn of_pass(taken: u64, limit: u64) -> Explanation {
+    Explanation { rule: 0, event: 0, s: 0, t: 0, u: 0, taken, observer: 0, limit }
 }
 
 /// The C header: the numbers for a break, with the level of the observer told.
@@ -113,7 +113,7 @@ pub fn explain(bytes: &[u8], out: &mut [u8]) -> ExplainAnswer {
     let (verdict, taken) = check_and_count(bytes);
     let explanation = match verdict {
         Verdict::Refused(number) => return ExplainAnswer::Refused(number),
-        Verdict::Pass => of_pass(taken),
+        Verdict::Pass => of_pass(taken, record::read(bytes).unwrap().limit() as u64),
         Verdict::Breaks(found) => of_break(found, taken),
     };
     if out.len() < EXPLANATION {
@@ -299,6 +299,23 @@ mod tests {
         assert_eq!(explained(&bytes), [2, 1, 0, 1, 0, 0, 0x81, 0]);
         assert_eq!(number(explain(&examples::p_for_two_with(&[(11, 0)]), &mut [])), 20);
         assert_eq!(number(explain(&examples::p_for_two(), &mut [0; 63])), 15);
+    }
+
+    /// Request l: the limit is told at a pass, and the count is that of kind 1.
+    #[test]
+    fn numbers_of_limited_parts() {
+        assert_eq!(explained(&examples::guard()), [0, 0, 0, 0, 0, 2, 0, 2]);
+        assert_eq!(explained(&examples::z_limited()), [0, 0, 0, 0, 0, 1, 0, 1]);
+        assert_eq!(explained(&examples::guard_with(&[(13, 0)])), [5, 2, 0, 0, 1, 2, 0, 0]);
+        assert_eq!(explained(&examples::guard_with(&[(22, 0)])), [1, 1, 0, 0, 0, 0, 0, 0]);
+        assert_eq!(explained(&examples::t_limited([0, 1, 2])), [0, 0, 0, 0, 0, 4, 0, 2]);
+        assert_eq!(explained(&examples::t_limited([0, 0, 1])), [4, 1, 0, 2, 1, 4, 0, 0]);
+        assert_eq!(number(explain(&examples::guard_with(&[(13, 2)]), &mut [])), 21);
+        assert_eq!(number(explain(&examples::guard(), &mut [0; 63])), 15);
+        let mut rng = Rng::new(78);
+        for limit in [1, 3, 8, 9, 64] {
+            assert_eq!(explained(&record::write(&make::limited_to(&mut rng, limit, 2)))[7], limit as u64);
+        }
     }
 
     #[test]

@@ -1,5 +1,5 @@
 //! The part record: its kinds, its bytes, its fields, and the refusals of a record.
-//! Document 01, "Levels", "The part record", "Refusals out of the input"; document 02, requests d, i and k.
+//! Document 01, "Levels", "The part record", "Refusals out of the input"; document 02, requests d, i, k and l.
 
 use std::ops::Deref;
 
@@ -28,23 +28,59 @@ pub struct Event {
     pub level: u8,
 }
 
-/// An observer of a part: its level, and the grouping of the states that is proposed for it.
+/// The number of classes in a column: one more than the largest class byte.
+pub fn count_of(column: &[u8]) -> usize {
+    let mut largest = 0;
+    for &class in column {
+        if class > largest {
+            largest = class;
+        }
+    }
+    largest as usize + 1
+}
+
+/// An observer of a part: its level, the grouping of the states that is proposed for it, and in a limited part a finer
+/// one.
 #[derive(Clone, PartialEq, Eq, Debug)]
 pub struct Observer {
     pub level: u8,
     pub classes: Vec<u8>,
+    pub fine: Option<Vec<u8>>,
 }
 
 impl Observer {
-    /// The number of classes: one more than the largest class byte.
+    /// An observer without a finer grouping.
+    pub fn new(level: u8, classes: Vec<u8>) -> Observer {
+        Observer { level, classes, fine: None }
+    }
+
     pub fn class_count(&self) -> usize {
-        let mut largest = 0;
-        for &class in &self.classes {
-            if class > largest {
-                largest = class;
+        count_of(&self.classes)
+    }
+
+    /// Request l: the fine column, which equals the coarse one where none is given.
+    pub fn fine_classes(&self) -> &[u8] {
+        self.fine.as_ref().unwrap_or(&self.classes)
+    }
+
+    pub fn fine_class_count(&self) -> usize {
+        count_of(self.fine_classes())
+    }
+
+    /// Request l: how many fine classes are in one coarse class.
+    pub fn fine_classes_in(&self, class: u8) -> usize {
+        let mut met: Vec<u8> = Vec::new();
+        for (s, &fine) in self.fine_classes().iter().enumerate() {
+            if self.classes[s] == class && !met.contains(&fine) {
+                met.push(fine);
             }
         }
-        largest as usize + 1
+        met.len()
+    }
+
+    /// Request l: the largest number of fine classes in one coarse class.
+    pub fn limit(&self) -> usize {
+        self.classes.iter().map(|&class| self.fine_classes_in(class)).max().unwrap()
     }
 }
 
@@ -62,7 +98,7 @@ pub struct Part {
 impl Part {
     /// A part for one observer, of these states and events without any step.
     pub fn without_steps(observer: u8, start: usize, classes: Vec<u8>, events: Vec<Event>) -> Part {
-        Part::for_observers(vec![Observer { level: observer, classes }], start, events)
+        Part::for_observers(vec![Observer::new(observer, classes)], start, events)
     }
 
     /// The same for a list of observers.
@@ -112,6 +148,22 @@ impl Part {
     pub fn levels(&self) -> Vec<u8> {
         self.observers.iter().map(|observer| observer.level).collect()
     }
+
+    /// The part of kind 1 with the first observer and its coarse column alone.
+    pub fn as_kind_1(&self) -> Part {
+        let first = Observer::new(self.observers[0].level, self.observers[0].classes.clone());
+        Part { observers: vec![first], ..self.clone() }
+    }
+
+    /// Request l: does the part give a fine column?
+    pub fn is_limited(&self) -> bool {
+        self.observers.iter().any(|observer| observer.fine.is_some())
+    }
+
+    /// Request l: the limit, which is 1 where no fine column is given.
+    pub fn limit(&self) -> usize {
+        self.observers.iter().map(Observer::limit).max().unwrap()
+    }
 }
 
 /// A part as one of its observers sees it: which events are low, and which states have one class. All else is the part's.
@@ -158,8 +210,13 @@ impl View<'_> {
         self.is_internal(e) || (self.is_output(e) && self.is_high(e))
     }
 
+    /// Have the states one class, in a limited part one coarse class?
     pub fn same_class(&self, s: usize, t: usize) -> bool {
         self.observer.classes[s] == self.observer.classes[t]
+    }
+
+    pub fn same_fine_class(&self, s: usize, t: usize) -> bool {
+        self.observer.fine_classes()[s] == self.observer.fine_classes()[t]
     }
 }
 
@@ -221,9 +278,13 @@ pub struct Form {
     pub columns: usize,
 }
 
-/// The kinds of records that are described: document 01's, and that of request k. All others are refused with 3.
-pub const FORMS: [Form; 2] =
-    [Form { kind: 1, first: First::Level, columns: 1 }, Form { kind: 2, first: First::Count, columns: 1 }];
+/// The kinds of records that are described: document 01's, and those of requests k and l. All others are refused with 3.
+/// The first column of an observer is the coarse one, a second one is finer.
+pub const FORMS: [Form; 3] = [
+    Form { kind: 1, first: First::Level, columns: 1 },
+    Form { kind: 2, first: First::Count, columns: 1 },
+    Form { kind: 3, first: First::Level, columns: 2 },
+];
 
 /// Request k: how many observers a record of kind 2 may list.
 pub const FEWEST_LISTED: usize = 2;
@@ -234,13 +295,11 @@ pub fn is_described(kind: u16) -> bool {
     FORMS.iter().any(|form| form.kind == kind)
 }
 
-/// "The part record", request k: the form of a part's record, by its number of observers.
+/// "The part record", requests k and l: the form of a part's record, by its number of observers and of their columns.
 pub fn form_of(part: &Part) -> Form {
-    if part.observers.len() == 1 {
-        FORMS[0]
-    } else {
-        FORMS[1]
-    }
+    let first = if part.observers.len() == 1 { First::Level } else { First::Count };
+    let columns = if part.is_limited() { 2 } else { 1 };
+    FORMS.into_iter().find(|form| form.first == first && form.columns == columns).unwrap()
 }
 
 pub const HEADER: usize = 6;
@@ -292,7 +351,7 @@ impl Layout {
         self.observers * self.form.columns
     }
 
-    /// "The part record", request k: the number of body bytes.
+    /// "The part record", requests k and l: the number of body bytes.
     pub fn body_length(self) -> usize {
         4 + self.list_length() + self.columns() * self.n + 4 * self.m + 8 * self.m * self.n
     }
@@ -324,13 +383,15 @@ impl Layout {
     }
 }
 
+/// The number of bytes of the longest record of a form.
+pub fn longest_of(form: Form) -> usize {
+    let observers = if form.first == First::Count { MOST_LISTED } else { 1 };
+    HEADER + Layout { form, observers, n: 64, m: 32 }.body_length()
+}
+
 /// "The part record", request k: the number of bytes of the longest record.
 pub fn longest() -> usize {
-    let lengths = FORMS.into_iter().map(|form| {
-        let observers = if form.first == First::Count { MOST_LISTED } else { 1 };
-        HEADER + Layout { form, observers, n: 64, m: 32 }.body_length()
-    });
-    lengths.max().unwrap()
+    FORMS.into_iter().map(longest_of).max().unwrap()
 }
 
 /// Bit t of the eight-byte row at an offset, bit 0 lowest.
@@ -348,7 +409,7 @@ pub fn refusal_2(bytes: &[u8]) -> bool {
     u32_at(bytes, 0) as usize != bytes.len() - HEADER
 }
 
-/// Refusal 3, request k: a kind without a form.
+/// Refusal 3, requests k and l: a kind without a form.
 pub fn refusal_3(bytes: &[u8]) -> bool {
     !is_described(u16_at(bytes, KIND_AT))
 }
@@ -386,7 +447,7 @@ pub fn refusal_20(bytes: &[u8]) -> bool {
     false
 }
 
-/// Refusal 6 for one column.
+/// Refusals 6 and 21 for one column: it is not numbered by first appearance.
 pub fn is_misnumbered(classes: &[u8]) -> bool {
     if classes[0] != 0 {
         return true;
@@ -410,14 +471,41 @@ pub fn column(bytes: &[u8], column: usize) -> &[u8] {
     &bytes[layout.class_at(column, 0)..layout.class_at(column + 1, 0)]
 }
 
-/// The grouping of observer number i.
+/// The grouping of observer number i, in a record of kind 3 the coarse one.
 pub fn classes_of(bytes: &[u8], i: usize) -> &[u8] {
     column(bytes, i * Layout::of(bytes).form.columns)
 }
 
-/// Refusal 6: tested for the column of each observer.
+/// The finer grouping of observer number i, where the kind has one.
+pub fn fine_of(bytes: &[u8], i: usize) -> Option<&[u8]> {
+    let columns = Layout::of(bytes).form.columns;
+    (columns > 1).then(|| column(bytes, i * columns + 1))
+}
+
+/// Refusal 6: tested for the column of each observer, the coarse one where there are two.
 pub fn refusal_6(bytes: &[u8]) -> bool {
     (0..Layout::of(bytes).observers).any(|i| is_misnumbered(classes_of(bytes, i)))
+}
+
+/// Refusal 21: have two states of one fine class different coarse classes?
+pub fn crosses(classes: &[u8], fine: &[u8]) -> bool {
+    for s in 0..classes.len() {
+        for t in 0..classes.len() {
+            if fine[s] == fine[t] && classes[s] != classes[t] {
+                return true;
+            }
+        }
+    }
+    false
+}
+
+/// Refusal 21: a fine class across two coarse ones, or a fine column that is not numbered by first appearance. Records
+/// without a fine column never get it.
+pub fn refusal_21(bytes: &[u8]) -> bool {
+    (0..Layout::of(bytes).observers).any(|i| match fine_of(bytes, i) {
+        Some(fine) => is_misnumbered(fine) || crosses(classes_of(bytes, i), fine),
+        None => false,
+    })
 }
 
 /// Refusal 7.
@@ -471,8 +559,17 @@ pub fn refusal_8(bytes: &[u8]) -> bool {
     false
 }
 
-/// "Order", requests d and k: the refusals of a record, in the order in which they are tested.
-pub const ORDER: [u32; 10] = [1, 2, 3, 4, 5, 20, 6, 7, 16, 8];
+/// "Order", requests d, k and l: the refusals of a record, in the order in which they are tested.
+pub const ORDER: [u32; 11] = [1, 2, 3, 4, 5, 20, 6, 21, 7, 16, 8];
+
+/// Can a record of this kind get the refusal?
+pub fn kind_can_get(kind: u16, number: u32) -> bool {
+    match number {
+        20 => kind == 2,
+        21 => kind == 3,
+        _ => true,
+    }
+}
 
 /// Does the refusal of this number apply? Of 1 to 5 and 20, those before it must not.
 pub fn applies(number: u32, bytes: &[u8]) -> bool {
@@ -484,6 +581,7 @@ pub fn applies(number: u32, bytes: &[u8]) -> bool {
         5 => refusal_5(bytes),
         20 => refusal_20(bytes),
         6 => refusal_6(bytes),
+        21 => refusal_21(bytes),
         7 => refusal_7(bytes),
         16 => refusal_16(bytes),
         8 => refusal_8(bytes),
@@ -509,12 +607,13 @@ pub fn read(bytes: &[u8]) -> Result<Part, u32> {
     }
 }
 
-/// The fields of a record that refusals 1 to 7 and 20 leave alone; bits of rows at n and above are left out.
+/// The fields of a record that refusals 1 to 7, 20 and 21 leave alone; bits of rows at n and above are left out.
 pub fn fields(bytes: &[u8]) -> Part {
     let layout = Layout::of(bytes);
     let mut observers = Vec::new();
     for (i, level) in observer_levels(bytes).into_iter().enumerate() {
-        observers.push(Observer { level, classes: classes_of(bytes, i).to_vec() });
+        let fine = fine_of(bytes, i).map(<[u8]>::to_vec);
+        observers.push(Observer { level, classes: classes_of(bytes, i).to_vec(), fine });
     }
     let mut events = Vec::new();
     for e in 0..layout.m {
@@ -548,7 +647,8 @@ pub fn push_u32(bytes: &mut Vec<u8>, number: u32) {
     push_u16(bytes, (number / 65536) as u16);
 }
 
-/// Writes the record of a part of at most 64 states. One observer makes it kind 1, several make it kind 2.
+/// Writes the record of a part of at most 64 states. One observer makes it kind 1, several make it kind 2, and one with a
+/// fine column makes it kind 3.
 pub fn write(part: &Part) -> Vec<u8> {
     let layout = Layout::of_part(part);
     let (n, m) = (layout.n, layout.m);
@@ -567,6 +667,7 @@ pub fn write(part: &Part) -> Vec<u8> {
     }
     for observer in &part.observers {
         bytes.extend_from_slice(&observer.classes);
+        bytes.extend(observer.fine.iter().flatten());
     }
     for e in 0..m {
         push_u16(&mut bytes, part.events[e].identifier);
@@ -606,21 +707,20 @@ mod tests {
 
     #[test]
     fn the_largest_record() {
-        let form = FORMS[0];
-        assert_eq!(Layout { form, observers: 1, n: 64, m: 32 }.body_length(), 16_580);
+        assert_eq!(FORMS.map(longest_of), [16_586, 16_782, 16_650]);
         assert_eq!(longest(), 16_782);
     }
 
     #[test]
     fn reading_gives_back_what_was_written() {
         let mut rng = Rng::new(11);
-        for _ in 0..200 {
-            let part = make::any_passing(&mut rng);
-            assert_eq!(read(&write(&part)), Ok(part));
-        }
-        for _ in 0..200 {
-            let part = make::any_list(&mut rng);
-            assert_eq!(read(&write(&part)), Ok(part));
+        for form in FORMS {
+            for _ in 0..200 {
+                let (n, m) = (rng.range(1, 8), rng.range(0, 6));
+                let part = make::passing_of_kind(&mut rng, form.kind, n, m);
+                assert_eq!(form_of(&part).kind, form.kind);
+                assert_eq!(read(&write(&part)), Ok(part));
+            }
         }
         assert_eq!(write(&read(&examples::p()).unwrap()), examples::p());
     }
@@ -676,18 +776,121 @@ mod tests {
         assert_eq!(changed(51, 0x80), Some(8));
     }
 
-    /// Request k: refusal 3 for every kind but 1 and 2.
+    /// Requests k and l: refusal 3 for every kind but 1, 2 and 3.
     #[test]
     fn kinds_not_described() {
-        assert_eq!(first_refusal(&examples::p()), None);
-        assert_eq!(first_refusal(&examples::p_for_two()), None);
-        for (at, byte) in [(4, 0), (4, 3), (4, 4), (4, 0xFF), (5, 1), (5, 0xFF)] {
-            assert_eq!(first_refusal(&examples::p_with(&[(at, byte)])), Some(3));
-            assert_eq!(first_refusal(&examples::p_for_two_with(&[(at, byte)])), Some(3));
+        for (kind, bytes) in [(1, examples::p()), (2, examples::p_for_two()), (3, examples::guard())] {
+            assert_eq!(first_refusal(&bytes), None);
+            let with = |at: usize, byte: u8| {
+                let mut changed = bytes.clone();
+                changed[at] = byte;
+                first_refusal(&changed)
+            };
+            for (at, byte) in [(4, 0), (4, 4), (4, 5), (4, 0xFF), (5, 1), (5, 0xFF)] {
+                assert_eq!(with(at, byte), Some(3));
+            }
+            // With another's kind: its length does not fit.
+            for other in (1..=3).filter(|&other| other != kind) {
+                assert_eq!(with(4, other), Some(5));
+            }
         }
-        // Each with the other's kind: its length does not fit.
-        assert_eq!(first_refusal(&examples::p_with(&[(4, 2)])), Some(5));
-        assert_eq!(first_refusal(&examples::p_for_two_with(&[(4, 1)])), Some(5));
+    }
+
+    /// Request l: the numbers, the coarse column, the fine one, the entries, the rows.
+    #[test]
+    fn fields_of_a_limited_part() {
+        let part = read(&examples::guard()).unwrap();
+        assert_eq!(part.observers, [Observer { level: 0x00, classes: vec![0, 0], fine: Some(vec![0, 1]) }]);
+        assert_eq!((part.states, part.start, part.event_count()), (2, 0, 2));
+        assert_eq!([part.leads(0, 1, 1), part.leads(1, 0, 0), part.leads(1, 1, 1)], [true, true, false]);
+        assert_eq!(write(&part), examples::guard());
+        let view = part.view(0);
+        assert_eq!([view.same_class(0, 1), view.same_fine_class(0, 1)], [true, false]);
+        assert_eq!([view.class_count(), view.observer.fine_class_count()], [1, 2]);
+        // Without its fine column it is of kind 1; with one that is like the coarse one it is not.
+        let mut other = part.clone();
+        other.observers[0].fine = None;
+        assert_eq!((write(&other)[4], write(&other).len()), (1, 52));
+        other.observers[0].fine = Some(vec![0, 0]);
+        assert_eq!((write(&other)[4], write(&other).len()), (3, 54));
+        assert_eq!(write(&read(&examples::z_limited()).unwrap()), examples::z_limited());
+        let length = |n: usize, m: usize| Layout { form: FORMS[2], observers: 1, n, m }.body_length();
+        assert_eq!([length(2, 2), length(1, 0), length(64, 32)], [48, 6, 16_644]);
+    }
+
+    /// Request l: the largest number of fine classes in a coarse class.
+    #[test]
+    fn limits() {
+        let limit = |classes: &[u8], fine: &[u8]| {
+            Observer { level: 0, classes: classes.to_vec(), fine: Some(fine.to_vec()) }.limit()
+        };
+        assert_eq!(limit(&[0], &[0]), 1);
+        assert_eq!(limit(&[0, 0], &[0, 1]), 2);
+        assert_eq!(limit(&[0, 1], &[0, 1]), 1);
+        assert_eq!(limit(&[0, 0, 0, 0], &[0, 0, 1, 0]), 2);
+        assert_eq!(limit(&[0, 1, 1, 0, 1], &[0, 1, 2, 0, 3]), 3);
+        assert_eq!(limit(&[0, 0, 0, 1, 2], &[0, 1, 2, 3, 4]), 3);
+        assert_eq!(read(&examples::guard()).unwrap().limit(), 2);
+        assert_eq!(read(&examples::p()).unwrap().limit(), 1);
+        assert_eq!(read(&examples::p_for_two()).unwrap().limit(), 1);
+    }
+
+    /// Minimal damages to the guard. Its coarse column is bytes 10 and 11, its fine one 12 and 13; its entries begin at 14
+    /// and 18, its rows at 22.
+    #[test]
+    fn each_refusal_of_a_limited_part_by_a_minimal_damage() {
+        for (at, byte, refusal) in [
+            (0, 0x31, 2),
+            (7, 0, 4),
+            (7, 65, 4),
+            (8, 2, 4),
+            (9, 33, 4),
+            (7, 3, 5),
+            (9, 1, 5),
+            (10, 1, 6),
+            (11, 2, 6),
+            (12, 1, 21),
+            (12, 255, 21),
+            (13, 2, 21),
+            (13, 255, 21),
+            (16, 3, 7),
+            (18, 1, 7),
+            (20, 3, 7),
+            (6, 0x01, 16),
+            (17, 0x3F, 16),
+            (21, 0x01, 16),
+            (22, 6, 8),
+            (53, 0x80, 8),
+        ] {
+            assert_eq!(first_refusal(&examples::guard_with(&[(at, byte)])), Some(refusal), "byte {}", at);
+        }
+        // One fine class for two coarse ones, two for two, two for one, one for one.
+        for (coarse, fine, refusal) in [(1, 0, Some(21)), (1, 1, None), (0, 1, None), (0, 0, None)] {
+            assert_eq!(first_refusal(&examples::guard_with(&[(11, coarse), (13, fine)])), refusal);
+        }
+        assert_eq!(first_refusal(&examples::guard()[..53]), Some(2));
+        assert_eq!(first_refusal(&[3, 0, 0, 0, 3, 0, 0, 1, 0]), Some(4));
+        assert_eq!(first_refusal(&[0, 0, 0, 0, 3, 0]), Some(4));
+        assert_eq!(first_refusal(&[5, 0, 0, 0, 3, 0, 0, 1, 0, 0, 0]), Some(5));
+    }
+
+    /// Request l: 21 stands between 6 and 7. Every damage is in place; they are taken away from the first one on.
+    #[test]
+    fn order_of_refusals_of_a_limited_part() {
+        let guard = examples::guard();
+        let mut bytes = guard.clone();
+        for (at, byte) in [(53, 0x80), (21, 0x3F), (16, 3), (13, 2), (11, 2), (9, 33), (4, 7), (0, 0x31)] {
+            bytes[at] = byte;
+        }
+        for (number, at) in [(2, 0), (3, 4), (4, 9), (6, 11), (21, 13), (7, 16), (16, 21), (8, 53)] {
+            assert_eq!(first_refusal(&bytes), Some(number));
+            bytes[at] = guard[at];
+        }
+        assert_eq!(bytes, guard);
+        // One event too few for the length, and a fine class too high.
+        assert_eq!(first_refusal(&examples::guard_with(&[(9, 1), (13, 2)])), Some(5));
+        // A coarse class too high makes the fine one cross, and 6 comes first.
+        assert_eq!(first_refusal(&examples::guard_with(&[(11, 2), (13, 0)])), Some(6));
     }
 
     /// Request k: the count, n, start and m, the observers, a class column for each, the entries, the rows.
@@ -695,8 +898,8 @@ mod tests {
     fn fields_of_a_list() {
         let p = read(&examples::p()).unwrap();
         let part = read(&examples::p_for_two()).unwrap();
-        let first = Observer { level: 0x00, classes: vec![0, 0] };
-        let second = Observer { level: 0x40, classes: vec![0, 1] };
+        let first = Observer::new(0x00, vec![0, 0]);
+        let second = Observer::new(0x40, vec![0, 1]);
         assert_eq!(p.observers, [first.clone()]);
         assert_eq!(part.observers, [first, second]);
         assert_eq!((part.states, part.start, &part.events, &part.steps), (2, 0, &p.events, &p.steps));

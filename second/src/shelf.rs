@@ -190,7 +190,7 @@ mod tests {
         clear(&mut shelf);
         load(&mut shelf, &examples::p_for_two());
         load(&mut shelf, &examples::q_for_two());
-        for (at, byte) in [(4, 3), (6, 3), (11, 0x00), (11, 0x01), (14, 1), (13, 1), (19, 0x80)] {
+        for (at, byte) in [(4, 4), (6, 3), (11, 0x00), (11, 0x01), (14, 1), (13, 1), (19, 0x80)] {
             let mut changed = shelf.clone();
             changed[at] = byte;
             let before = changed.clone();
@@ -201,6 +201,29 @@ mod tests {
             assert_eq!(changed, before);
         }
         assert_eq!(hookup(&mut shelf, 0, 1), Answer::Part(2));
+    }
+
+    /// Request l: limited parts stand beside others and are hooked up.
+    #[test]
+    fn limited_parts_on_the_shelf() {
+        let mut shelf = vec![0x55; 300];
+        clear(&mut shelf);
+        assert_eq!(load(&mut shelf, &examples::guard()), Answer::Part(0));
+        assert_eq!(load(&mut shelf, &examples::z()), Answer::Part(1));
+        assert_eq!(load(&mut shelf, &examples::z_for_two()), Answer::Part(2));
+        assert_eq!(load(&mut shelf, &examples::guard_with(&[(13, 2)])), Answer::Refused(21));
+        assert_eq!(hookup(&mut shelf, 0, 1), Answer::Part(3));
+        assert_eq!(hookup(&mut shelf, 0, 2), Answer::Refused(9));
+        assert_eq!(hookup(&mut shelf, 2, 0), Answer::Refused(9));
+        assert_eq!(hookup(&mut shelf, 0, 3), Answer::Clash(1));
+        assert_eq!(part(&shelf, 3), &examples::guard()[..]);
+        // Changed on the shelf: a fine class too high, and one fine class for both states.
+        for byte in [2, 0] {
+            let mut changed = shelf.clone();
+            changed[13] = byte;
+            assert_eq!(hookup(&mut changed, 0, 1), Answer::Refused(14));
+            assert_eq!(hookup(&mut changed, 1, 0), Answer::Refused(14));
+        }
     }
 
     fn answer_of_p_0_1() -> Answer {

@@ -6,7 +6,7 @@ use crate::record::{applies, at_or_below, event_levels, first_refusal, is_mislab
 #[derive(Clone, Copy)]
 pub struct Reading {
     pub name: &'static str,
-    order: [u32; 4],
+    order: [u32; 5],
     looks_at_observer: bool,
     looks_at: fn(&[u8], usize) -> bool,
     is_bad: fn(u8) -> bool,
@@ -14,16 +14,17 @@ pub struct Reading {
 
 const RIGHT: Reading = Reading {
     name: "right",
-    order: [6, 7, 16, 8],
+    order: [6, 21, 7, 16, 8],
     looks_at_observer: true,
     looks_at: |_, _| true,
     is_bad: is_mislabelled,
 };
 
-pub const READINGS: [Reading; 20] = [
-    Reading { name: "behind 8", order: [6, 7, 8, 16], ..RIGHT },
-    Reading { name: "before 7", order: [6, 16, 7, 8], ..RIGHT },
-    Reading { name: "before 6", order: [16, 6, 7, 8], ..RIGHT },
+pub const READINGS: [Reading; 21] = [
+    Reading { name: "behind 8", order: [6, 21, 7, 8, 16], ..RIGHT },
+    Reading { name: "before 7", order: [6, 21, 16, 7, 8], ..RIGHT },
+    Reading { name: "before 21", order: [6, 16, 21, 7, 8], ..RIGHT },
+    Reading { name: "before 6", order: [16, 6, 21, 7, 8], ..RIGHT },
     Reading { name: "observer not looked at", looks_at_observer: false, ..RIGHT },
     Reading { name: "events not looked at", looks_at: |_, _| false, ..RIGHT },
     Reading { name: "first event not looked at", looks_at: |_, e| e > 0, ..RIGHT },
@@ -58,7 +59,7 @@ impl Reading {
 
 /// The refusals behind 5 and 20 that apply, besides 16.
 fn others(bytes: &[u8]) -> Vec<u32> {
-    [6, 7, 8].into_iter().filter(|&number| applies(number, bytes)).collect()
+    [6, 21, 7, 8].into_iter().filter(|&number| applies(number, bytes)).collect()
 }
 
 /// The wrong readings by which a record would get another answer.
@@ -132,8 +133,9 @@ mod tests {
             ]
         );
         assert_eq!(differing(&[(6, 0x01), (15, 0x03), (51, 0x80)]), ["behind 8", "no level is bad"]);
-        assert_eq!(differing(&[(6, 0x01), (14, 3)]), ["before 7", "before 6"]);
+        assert_eq!(differing(&[(6, 0x01), (14, 3)]), ["before 7", "before 21", "before 6"]);
         assert_eq!(differing(&[(6, 0x01), (11, 2)]), ["before 6"]);
+        assert_eq!(readings_that_differ(&examples::guard_with(&[(6, 0x01), (13, 2)])), ["before 21", "before 6"]);
         assert_eq!(readings_that_differ(&examples::p_with(&[(6, 0x01), (9, 33)])), [""; 0]);
     }
 }

@@ -153,7 +153,7 @@ fn wrong_size_by_cut_count(bytes: &[u8]) -> bool {
 
 fn with_first_column(part: &Part) -> Option<Break> {
     let classes = part.observers[0].classes.clone();
-    let observers = part.levels().into_iter().map(|level| Observer { level, classes: classes.clone() }).collect();
+    let observers = part.levels().into_iter().map(|level| Observer::new(level, classes.clone())).collect();
     check::first_break(&Part { observers, ..part.clone() })
 }
 

@@ -113,7 +113,7 @@ pub const CLASS_COUNTS: [(&str, ClassCount); 5] = [
 
 /// The wrong numbers of classes that would show in a column of the joined part.
 pub fn class_counts_that_differ(a: &Part, b: &Part) -> Vec<&'static str> {
-    let joined = |i: usize, kb: usize| join::joined_classes(&a.observers[i], &b.observers[i], kb);
+    let joined = |i: usize, kb: usize| join::joined_classes(&a.observers[i].classes, &b.observers[i].classes, kb);
     let shows = |count: ClassCount| {
         (0..a.observers.len()).any(|i| joined(i, count(a, b, i)) != joined(i, b.observers[i].class_count()))
     };
@@ -203,7 +203,7 @@ mod tests {
     fn numbers_of_classes_by_hand() {
         let part = |first: &[u8], second: &[u8]| {
             let observers =
-                [(0x00, first), (0x40, second)].map(|(level, classes)| Observer { level, classes: classes.to_vec() });
+                [(0x00, first), (0x40, second)].map(|(level, classes)| Observer::new(level, classes.to_vec()));
             Part::for_observers(observers.to_vec(), 0, Vec::new())
         };
         let b = part(&[0, 0, 1], &[0, 1, 2]);

@@ -1,41 +1,37 @@
 // The form of a record by its kind; where its parts begin, and how long it is, by its counts (specs/Format.antt).
 ghost use mathlib.Core.Path.{_≡_};
 ghost use Prim.Native.Nat.{_<_};
+ghost use mathlib.Core.Bool.{cond};
 ghost use Rattle.part.specs.Format.{form, column-at, entries-at, rows-at, body-size, record-size};
 ghost use Rattle.part.specs.Frame.{Few};
 use crate::field::Part;
 use crate::format::Counts;
 use crate::format::Form;
 
+// x where the test holds, and otherwise y. The form of a record is chosen by such values and not by branches, so that a loop that reads fields
+// finds it once.
+fn choose(test: bool, x: usize, y: usize) -> usize
+    ensures { λ r. ⌜ r ≡ cond test x y ⌝ }
+{
+    if test {
+        return x;
+    }
+    y
+}
+
 impl Form {
     // The form of a record of this kind, with this first byte.
     pub fn of(kind: usize, lead: usize) -> Form
         ensures { λ r. ⌜ r ≡ form kind lead ⌝ }
     {
-        if kind == Part::SEVERAL {
-            return Form {
-                observers: lead,
-                levels: Part::LISTS,
-                listed: lead,
-                columns: lead,
-                finer: 0,
-            };
-        }
-        if kind == Part::LIMITED {
-            return Form {
-                observers: 1,
-                levels: Part::HEADER,
-                listed: 0,
-                columns: 2,
-                finer: 1,
-            };
-        }
+        let several = kind == Part::SEVERAL;
+        let limited = kind == Part::LIMITED;
         Form {
-            observers: 1,
-            levels: Part::HEADER,
-            listed: 0,
-            columns: 1,
-            finer: 0,
+            observers: choose(several, lead, 1),
+            levels: choose(several, Part::LISTS, Part::HEADER),
+            listed: choose(several, lead, 0),
+            columns: choose(several, lead, choose(limited, 2, 1)),
+            finer: choose(several, 0, choose(limited, 1, 0)),
         }
     }
 }

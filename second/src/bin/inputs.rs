@@ -36,6 +36,8 @@ fn records(rng: &mut Rng) -> Vec<(&'static str, Vec<u8>)> {
     let passing = record::write(&make::any_passing(rng));
     let (list_a, list_b) = make::joinable_lists(rng);
     let list = record::write(&make::any_list(rng));
+    let (limited_a, limited_b) = make::joinable_of_kinds(rng, (3, 3));
+    let limited = record::write(&make::any_limited(rng));
     vec![
         ("joins-a", record::write(&a)),
         ("joins-b", record::write(&b)),
@@ -51,6 +53,11 @@ fn records(rng: &mut Rng) -> Vec<(&'static str, Vec<u8>)> {
         ("list-broken", record::write(&make::breaking_list(rng))),
         ("list-damaged", damaged(rng, &list)),
         ("list-full", record::write(&make::staying_list(rng, 64, 32, record::MOST_LISTED))),
+        ("limited-a", record::write(&limited_a)),
+        ("limited-b", record::write(&limited_b)),
+        ("limited-broken", record::write(&make::breaking_limited(rng))),
+        ("limited-damaged", damaged(rng, &limited)),
+        ("limited-full", record::write(&make::limited_of_size(rng, 64, 32))),
     ]
 }
 
@@ -77,6 +84,8 @@ fn main() {
         write(folder, &format!("{:04}.script", i), &script.bytes);
         let lists = make::session_on_lists(&mut rng, capacity, 30);
         write(folder, &format!("{:04}-list.script", i), &lists.bytes);
+        let limited = make::session_on_limited(&mut rng, capacity, 30);
+        write(folder, &format!("{:04}-limited.script", i), &limited.bytes);
         let mut cut = script.bytes.clone();
         cut.truncate(rng.below(cut.len() + 1));
         write(folder, &format!("{:04}-cut.script", i), &cut);

@@ -1,6 +1,6 @@
 //! Tries the promise about high inputs by brute force: on small passing parts, on joined ones and on racks of three,
 //! where no counterexample may come up, and on parts that break a rule, where some must. It is asked for each observer of
-//! a part.
+//! a part of kind 1 or 2. Limited parts pass and are not covered: some of them must have a counterexample too.
 //!
 //! `promise [--seed N]`
 
@@ -80,6 +80,8 @@ const MATCHING: &str = "matching traces checked step by step";
 const SHARED_LOW: &str = "joined: a shared low event in a matching trace";
 const WITH_OTHER_LIST: &str = "joined with a part of another list, both passing: counterexample found";
 const WITH_BROKEN: &str = "joined with a part that breaks a rule, the other passing: counterexample found";
+const LIMITED: &str = "limited part, passing: counterexample found";
+const LIMITED_JOINED: &str = "joined of a limited part and another, passing: counterexample found";
 
 /// Whether a part passes by some reading for its one observer.
 type Passes = fn(View) -> bool;
@@ -164,6 +166,8 @@ fn needs() -> Tally {
     }
     tally.need(WITH_BROKEN, 20);
     tally.need(WITH_OTHER_LIST, 20);
+    tally.need(LIMITED, 50);
+    tally.need(LIMITED_JOINED, 20);
     tally
 }
 
@@ -187,7 +191,7 @@ impl Run {
     /// A passing part: both searches must come back without a counterexample, and a matching trace is checked
     /// step by step for as many choices as are to be tried. These matching traces are given back.
     fn must_keep(&mut self, view: View, tries: usize) -> Vec<Vec<usize>> {
-        assert!(check::break_for(view).is_none());
+        assert!(check::break_for(view).is_none() && traces::is_covered(&view));
         let outcome = traces::search(view, bounds_for(view));
         self.choices += outcome.choices;
         if let Some(found) = outcome.counterexample {
@@ -383,6 +387,26 @@ impl Run {
         }
     }
 
+    /// Limited parts that pass, alone and joined: why the promise is not made for them. Those with a counterexample break
+    /// a rule without their fine column.
+    fn limited_parts(&mut self) {
+        for _ in 0..20_000 {
+            if !self.tally.lacks(LIMITED) && !self.tally.lacks(LIMITED_JOINED) {
+                break;
+            }
+            let part = make::small_limited(&mut self.rng);
+            if breaks_uncovered(&part) {
+                self.tally.count(LIMITED);
+                assert!(!check::passes(&part.as_kind_1()));
+            }
+            let other = make::third_limited_for(&mut self.rng, &part);
+            if self.tally.lacks(LIMITED_JOINED) && joined(&part, &other).is_some_and(|part| breaks_uncovered(&part)) {
+                self.tally.count(LIMITED_JOINED);
+            }
+        }
+        assert!(breaks_uncovered(&record::read(&examples::guard()).unwrap()));
+    }
+
     /// Counts a joined part by its shared events.
     fn count_shared(&mut self, a: &Part, b: &Part, joined: View, matching: &[Vec<usize>]) {
         if shares(a, b, true) {
@@ -479,6 +503,12 @@ fn breaks_promise(view: View) -> bool {
     bounded.is_some()
 }
 
+/// Is there a counterexample for a limited part that passes?
+fn breaks_uncovered(part: &Part) -> bool {
+    assert!(check::passes(part) && !traces::is_covered(part));
+    breaks_promise(part.view(0))
+}
+
 fn joined(a: &Part, b: &Part) -> Option<Part> {
     if join::refusal_of_pair(a, b).is_some() {
         return None;
@@ -542,6 +572,7 @@ fn main() {
     run.parts_of_lists();
     run.misread_lists();
     run.joined_with_other_lists();
+    run.limited_parts();
 
     run.tally.print();
     println!("choices of lists tried on passing parts: {}", run.choices);

@@ -1,15 +1,17 @@
 //! Makes records that are meant to be refused: damaged for each refusal of a record, mangled, random bytes.
 
 use super::breaks::changed_steps;
+use super::kinds::any_of_kinds;
 use super::levels::bad_level;
-use super::lists::{any_passing_or_list, damage_list, mislabel_list};
+use super::limited::damage_fine;
+use super::lists::{damage_list, mislabel_list};
 use crate::record::{
     self, column, observer_levels, u32_at, Layout, EVENT_COUNT_AT, FORMS, HEADER, ORDER, START_AT, STATE_COUNT_AT,
 };
 use crate::rng::Rng;
 
 /// Damages a well-formed record towards one of the refusals of a record. Where the record has no place for it (no events
-/// for 7, say, or no list of observers for 20), it stays as it is.
+/// for 7, say, no list of observers for 20 or no fine column for 21), it stays as it is.
 pub fn damage(rng: &mut Rng, bytes: &mut Vec<u8>, refusal: u32) {
     if bytes.len() <= HEADER + 4 {
         // An earlier damage has already cut it.
@@ -44,7 +46,7 @@ pub fn damage(rng: &mut Rng, bytes: &mut Vec<u8>, refusal: u32) {
         },
         3 => match rng.below(4) {
             0 => bytes[4] = 0,
-            1 => bytes[4] = rng.range(2, 255) as u8,
+            1 => bytes[4] = rng.range(FORMS.len() + 1, 255) as u8,
             2 => bytes[5] = rng.range(1, 255) as u8,
             _ => {
                 bytes[4] = 0;
@@ -82,9 +84,10 @@ pub fn damage(rng: &mut Rng, bytes: &mut Vec<u8>, refusal: u32) {
         },
         20 => damage_list(rng, bytes),
         6 => {
-            let i = if layout.columns() > 1 { rng.below(layout.columns()) } else { 0 };
-            misnumber(rng, bytes, i);
+            let i = if layout.observers > 1 { rng.below(layout.observers) } else { 0 };
+            misnumber(rng, bytes, i * layout.form.columns);
         }
+        21 => damage_fine(rng, bytes),
         7 => {
             if m >= 2 && rng.chance(1, 2) {
                 let e = rng.pick(&[1, m / 2, m - 1]).max(1);
@@ -119,7 +122,7 @@ pub fn damage(rng: &mut Rng, bytes: &mut Vec<u8>, refusal: u32) {
     }
 }
 
-/// Damages one class column towards refusal 6.
+/// Damages one class column towards refusal 6, or 21 where it is a fine one.
 pub fn misnumber(rng: &mut Rng, bytes: &mut [u8], i: usize) {
     let layout = Layout::of(bytes);
     let s = rng.pick(&[0, layout.n / 2, layout.n - 1]);
@@ -187,7 +190,7 @@ pub fn random_bytes(rng: &mut Rng) -> Vec<u8> {
 
 /// A record that Check refuses or finds broken, for the most part.
 pub fn bad_record(rng: &mut Rng) -> Vec<u8> {
-    let part = any_passing_or_list(rng);
+    let part = any_of_kinds(rng);
     let mut bytes = record::write(&part);
     match rng.below(4) {
         0 => {
@@ -205,35 +208,30 @@ pub fn bad_record(rng: &mut Rng) -> Vec<u8> {
 mod tests {
     use super::*;
     use crate::check::{self, Verdict};
-    use crate::make::{list_of_size, passing_of_size};
-    use crate::record::Part;
+    use crate::make::passing_of_kind;
+    use crate::record::kind_can_get;
 
-    /// Of the refusals, 20 alone needs several observers.
     #[test]
     fn damages_are_refused_as_meant() {
-        let refusals: Vec<u32> = ORDER.into_iter().filter(|&refusal| refusal != 20).collect();
-        are_refused_as_meant(53, &refusals, passing_of_size);
+        for form in FORMS {
+            are_refused_as_meant(form.kind);
+        }
     }
 
-    #[test]
-    fn damages_of_lists_are_refused_as_meant() {
-        are_refused_as_meant(68, &ORDER, |rng, n, m| list_of_size(rng, n, m, n.clamp(2, 4)));
-    }
-
-    fn are_refused_as_meant(seed: u64, refusals: &[u32], maker: fn(&mut Rng, usize, usize) -> Part) {
-        let mut rng = Rng::new(seed);
-        for &refusal in refusals {
+    fn are_refused_as_meant(kind: u16) {
+        let mut rng = Rng::new(53);
+        for refusal in ORDER.into_iter().filter(|&refusal| kind_can_get(kind, refusal)) {
             let mut as_meant = 0;
             for _ in 0..100 {
                 let n = rng.range(2, 6);
                 let m = rng.range(2, 5);
-                let mut bytes = record::write(&maker(&mut rng, n, m));
+                let mut bytes = record::write(&passing_of_kind(&mut rng, kind, n, m));
                 damage(&mut rng, &mut bytes, refusal);
                 if check::check(&bytes) == Verdict::Refused(refusal) {
                     as_meant += 1;
                 }
             }
-            assert!(as_meant > 60, "refusal {}: {}", refusal, as_meant);
+            assert!(as_meant > 60, "kind {}, refusal {}: {}", kind, refusal, as_meant);
         }
     }
 }

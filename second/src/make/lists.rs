@@ -5,7 +5,7 @@ use super::damages::set_length;
 use super::groupings::{any_grouping, by_first_appearance};
 use super::levels::{any_level, bad_level, identifiers, near_level, random_events};
 use super::pairs::{bus, joinable_pair, pair, small_joinable_pair, third_for, PairPlan};
-use super::passing::{any_passing, passing_of_size, small_passing};
+use super::passing::{passing_of_size, small_passing};
 use super::shapes::{steps_of_shape, with_quiet_events_internal, Shape, SHAPES};
 use crate::check;
 use crate::record::{
@@ -52,7 +52,7 @@ fn seen_from(view: View, reaches: &[Vec<bool>], s: usize) -> Vec<Vec<bool>> {
 /// A grouping for an observer of this level that keeps together what it cannot tell apart; it need not pass.
 fn worked_out(part: &Part, level: u8) -> Vec<u8> {
     let n = part.state_count();
-    let mut observer = Observer { level, classes: vec![0; n] };
+    let mut observer = Observer::new(level, vec![0; n]);
     loop {
         let view = View { part, observer: &observer };
         let reaches = check::quiet_reaches(view);
@@ -74,7 +74,7 @@ pub fn observer_for(rng: &mut Rng, part: &Part, level: u8) -> Option<Observer> {
         groupings.push(worked_out(part, level));
     }
     rng.shuffle(&mut groupings);
-    let observers = groupings.into_iter().map(|classes| Observer { level, classes });
+    let observers = groupings.into_iter().map(|classes| Observer::new(level, classes));
     observers.into_iter().find(|observer| check::break_for(View { part, observer }).is_none())
 }
 
@@ -136,7 +136,7 @@ pub fn staying_list(rng: &mut Rng, n: usize, m: usize, count: usize) -> Part {
     let seen_by = levels.iter().copied().find(|&level| level != 0xFF).unwrap();
     let events = random_events(rng, seen_by, m);
     let mut part = Part::without_steps(levels[0], rng.below(n), vec![0; n], events);
-    part.observers = levels.iter().map(|&level| Observer { level, classes: (0..n as u8).collect() }).collect();
+    part.observers = levels.iter().map(|&level| Observer::new(level, (0..n as u8).collect())).collect();
     for e in 0..m {
         let shape = rng.pick(&SHAPES);
         part.steps[e] = steps_of_shape(rng, shape, n);
@@ -178,7 +178,7 @@ pub fn seeing_more(rng: &mut Rng, n: usize, count: usize) -> Part {
     let passes = rng.chance(1, 2);
     let observers = levels.iter().map(|&level| match passes {
         true => observer_for(rng, &part, level).unwrap(),
-        false => Observer { level, classes: any_grouping(rng, n) },
+        false => Observer::new(level, any_grouping(rng, n)),
     });
     part.observers = observers.collect();
     part
@@ -234,7 +234,7 @@ fn another(
             continue;
         }
         if !passes {
-            return Some(Observer { level, classes: any_grouping(rng, part.state_count()) });
+            return Some(Observer::new(level, any_grouping(rng, part.state_count())));
         }
         if let Some(observer) = observer_for(rng, part, level) {
             return Some(observer);
@@ -435,15 +435,6 @@ pub fn bus_of_lists(rng: &mut Rng, parts: usize, most_states: usize) -> Vec<Part
     }
 }
 
-/// A part for one observer or for several.
-pub fn any_passing_or_list(rng: &mut Rng) -> Part {
-    if rng.chance(1, 2) {
-        any_list(rng)
-    } else {
-        any_passing(rng)
-    }
-}
-
 /// Damages the list of a record of kind 2 towards refusal 20: a count out of range, with as many columns, or observers
 /// that do not rise.
 pub fn damage_list(rng: &mut Rng, bytes: &mut Vec<u8>) {
@@ -532,6 +523,7 @@ mod tests {
     use super::*;
     use crate::check::Verdict;
     use crate::join;
+    use crate::make::any_passing;
     use crate::record::{self, first_refusal};
 
     #[test]

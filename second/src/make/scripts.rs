@@ -1,6 +1,8 @@
 //! Makes lists of calls, and scripts for `replay`.
 
 use super::damages::bad_record;
+use super::kinds::bus_of_limited;
+use super::limited::any_limited;
 use super::lists::{any_list, bus_of_lists};
 use super::pairs::bus;
 use super::passing::any_passing;
@@ -21,6 +23,11 @@ pub fn calls(rng: &mut Rng, count: usize) -> Vec<Call> {
 /// The same on parts for several observers.
 pub fn calls_on_lists(rng: &mut Rng, count: usize) -> Vec<Call> {
     calls_on(rng, count, bus_of_lists)
+}
+
+/// The same on limited parts and some others.
+pub fn calls_on_limited(rng: &mut Rng, count: usize) -> Vec<Call> {
+    calls_on(rng, count, bus_of_limited)
 }
 
 fn calls_on(rng: &mut Rng, count: usize, bus: Bus) -> Vec<Call> {
@@ -99,6 +106,11 @@ pub fn session(rng: &mut Rng, capacity: usize, operations: usize) -> Script {
 /// The same on parts for several observers.
 pub fn session_on_lists(rng: &mut Rng, capacity: usize, operations: usize) -> Script {
     session_on(rng, capacity, operations, bus_of_lists, any_list)
+}
+
+/// The same on limited parts and some others.
+pub fn session_on_limited(rng: &mut Rng, capacity: usize, operations: usize) -> Script {
+    session_on(rng, capacity, operations, bus_of_limited, any_limited)
 }
 
 fn session_on(rng: &mut Rng, capacity: usize, operations: usize, bus: Bus, other: fn(&mut Rng) -> Part) -> Script {

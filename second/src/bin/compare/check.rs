@@ -1,8 +1,8 @@
 //! Compares hookup_check: the number, and that nothing is written.
 
 use crate::internal;
+use crate::kind::{self, LEAST_OF_KINDS};
 use crate::label;
-use crate::list;
 use crate::product::{self, Lent};
 use crate::report::differ;
 use crate::{all_examples, Comparison, LEAST, LEAST_OF_MAIN, MOST_TRIES};
@@ -24,11 +24,15 @@ pub fn need(tally: &mut Tally) {
     }
     for reasons in cases::each_two_reasons() {
         tally.need(&twice_damaged_name("record", reasons), LEAST);
-        tally.need(&twice_damaged_name("record of several observers", reasons), LEAST / 4);
+    }
+    for kind in [2, 3] {
+        for reasons in cases::each_two_reasons_of(kind) {
+            tally.need(&twice_damaged_name(&format!("record of kind {}", kind), reasons), LEAST / 4);
+        }
     }
     label::need(tally, "check:", LEAST);
     internal::need(tally, "check:", LEAST);
-    list::need(tally, "check:", LEAST);
+    kind::need(tally, "check:", LEAST_OF_KINDS);
     tally.need("check: mangled record", LEAST_OF_MAIN);
     tally.need("check: random bytes", LEAST_OF_MAIN);
     tally.need("check: more than 65536 bytes", LEAST);
@@ -71,7 +75,7 @@ impl Comparison {
         }
         self.count_labels("check:", bytes);
         self.count_internal("check:", bytes, verdict);
-        self.count_lists("check:", bytes, verdict);
+        self.count_kinds("check:", bytes, verdict);
     }
 
     pub fn all_checks(&mut self) {
@@ -111,7 +115,7 @@ impl Comparison {
             }
         }
         for _ in 0..2000 {
-            let part = make::any_passing_or_list(&mut self.rng);
+            let part = make::any_of_kinds(&mut self.rng);
             let bytes = make::mangled(&mut self.rng, &record::write(&part));
             self.check_record(&bytes);
             self.tally.count("check: mangled record");
@@ -135,19 +139,23 @@ impl Comparison {
         for _ in 0..2 * LEAST {
             self.check_number(&[], Verdict::Refused(1));
         }
-        for bytes in cases::lists(&mut self.rng, LEAST) {
+        for bytes in cases::lists(&mut self.rng, LEAST_OF_KINDS) {
             self.check_record(&bytes);
         }
-        self.lists_damaged_twice();
+        for bytes in cases::limited(&mut self.rng, LEAST_OF_KINDS) {
+            self.check_record(&bytes);
+        }
+        self.damaged_twice(2);
+        self.damaged_twice(3);
     }
 
-    /// Records of several observers, damaged in two ways.
-    fn lists_damaged_twice(&mut self) {
+    /// Records of this kind, damaged in two ways.
+    fn damaged_twice(&mut self, kind: u16) {
         for _ in 0..MOST_TRIES / 3 {
-            let (bytes, reasons) = cases::twice_damaged_list(&mut self.rng);
+            let (bytes, reasons) = cases::twice_damaged_of(&mut self.rng, kind);
             self.check_record(&bytes);
             if check::check(&bytes) == Verdict::Refused(reasons.0) {
-                self.tally.count(&twice_damaged_name("record of several observers", reasons));
+                self.tally.count(&twice_damaged_name(&format!("record of kind {}", kind), reasons));
             }
         }
     }

@@ -1,8 +1,8 @@
 //! Compares hookup_closure: the number, every byte of the output buffer, and that nothing else is written. On all small
 //! tables, and on joined parts, hookup_explain is compared too.
 
+use crate::kind::{self, LEAST_OF_KINDS};
 use crate::label;
-use crate::list;
 use crate::product::{self, Lent};
 use crate::report::differ;
 use crate::{all_examples, Comparison, LEAST, LEAST_OF_MAIN, MOST_TRIES};
@@ -11,6 +11,7 @@ use second::category::Tally;
 use second::category_closure;
 use second::category_internal;
 use second::category_join::shared_low_event_adds;
+use second::category_limited_calls;
 use second::category_list_calls;
 use second::check;
 use second::closure::{self, LONGEST, PIECE};
@@ -34,9 +35,9 @@ pub fn need(tally: &mut Tally) {
         tally.need(&twice_damaged_name(earlier), LEAST);
     }
     label::need(tally, "closure:", LEAST);
-    list::need(tally, "closure:", LEAST);
-    for name in category_list_calls::closure_names() {
-        tally.need(&format!("closure: {}", name), LEAST);
+    kind::need(tally, "closure:", LEAST_OF_KINDS);
+    for name in category_list_calls::closure_names().into_iter().chain(category_limited_calls::closure_names()) {
+        tally.need(&format!("closure: {}", name), LEAST_OF_KINDS);
     }
     tally.need(UP_TO_3_STATES, 2 + 16 + 512);
     tally.need(OF_4_STATES, 4096);
@@ -85,8 +86,9 @@ impl Comparison {
             self.tally.count(&format!("closure: {}", name));
         }
         self.count_labels("closure:", bytes);
-        self.count_lists("closure:", bytes, verdict);
+        self.count_kinds("closure:", bytes, verdict);
         self.count_names("closure:", category_list_calls::of_closure(bytes, room, answer));
+        self.count_names("closure:", category_limited_calls::of_closure(bytes, room, answer));
         if let Some(judged) = category_internal::judged(bytes, verdict) {
             self.still_passes(bytes, &judged);
         }
@@ -147,6 +149,7 @@ impl Comparison {
         self.closures_of_joined_parts();
         self.closures_of_refused_records();
         self.closures_of_lists();
+        self.closures_of_limited();
     }
 
     /// Quiet steps of each shape, in parts of each size; some again for another observer.

@@ -2,14 +2,15 @@
 //! also held against hookup_check's.
 
 use crate::internal;
+use crate::kind::{self, LEAST_OF_KINDS};
 use crate::label;
-use crate::list;
 use crate::product::{self, Lent};
 use crate::report::differ;
 use crate::{all_examples, Comparison, LEAST, LEAST_OF_MAIN, MOST_TRIES};
 use second::cases;
 use second::category::Tally;
 use second::category_explain::{self, break_of};
+use second::category_limited_calls;
 use second::category_list_calls;
 use second::check::{self, Verdict};
 use second::examples;
@@ -37,9 +38,9 @@ pub fn need(tally: &mut Tally) {
     }
     label::need(tally, "explain:", LEAST);
     internal::need(tally, "explain:", LEAST);
-    list::need(tally, "explain:", LEAST);
-    for name in category_list_calls::explain_names() {
-        tally.need(&format!("explain: {}", name), LEAST);
+    kind::need(tally, "explain:", LEAST_OF_KINDS);
+    for name in category_list_calls::explain_names().into_iter().chain(category_limited_calls::explain_names()) {
+        tally.need(&format!("explain: {}", name), LEAST_OF_KINDS);
     }
     tally.need(WITH_EACH_GROUPING, 3 * (2 + 2 * 16 + 5 * 512));
     tally.need(PAIRS_OF_TABLES, 3 * 6 * 16 * 16 * 2);
@@ -93,8 +94,9 @@ impl Comparison {
         self.count_labels("explain:", bytes);
         let verdict = verdict_of(bytes, answer);
         self.count_internal("explain:", bytes, verdict);
-        self.count_lists("explain:", bytes, verdict);
+        self.count_kinds("explain:", bytes, verdict);
         self.count_names("explain:", category_list_calls::of_explain(bytes, answer));
+        self.count_names("explain:", category_limited_calls::of_explain(bytes, answer));
         if lent.is_null() {
             self.tally.count("explain: record at a null pointer");
         }
@@ -140,6 +142,7 @@ impl Comparison {
         self.explanations_of_broken_parts();
         self.explanations_of_refused_records();
         self.explanations_of_lists();
+        self.explanations_of_limited();
     }
 
     /// Every table of quiet steps of up to three states with every grouping, as the steps of one quiet event: a high

@@ -1,21 +1,25 @@
 //! Compares hookup_join: the number, every byte of the output buffer, and that nothing else is written.
 
 use crate::internal;
+use crate::kind::{self, LEAST_OF_KINDS, LEAST_OF_SIDES};
 use crate::label;
-use crate::list;
 use crate::product::{self, Lent};
 use crate::report::differ;
 use crate::{all_examples, Comparison, LEAST, LEAST_OF_MAIN};
 use second::cases;
 use second::category::Tally;
 use second::category_join;
+use second::category_limited_calls;
 use second::category_list_calls;
 use second::check::{self, Verdict};
 use second::examples;
+use second::explain::EXPLANATION;
 use second::join::{self, JoinAnswer, Side};
 use second::make::{self, Clash, PairPlan};
 use second::record::{self, longest, Part};
 use second::replay::hex;
+
+const LIMITS: &str = "join: joined, its limit held against those of A and B";
 
 pub fn need(tally: &mut Tally) {
     for name in category_join::names() {
@@ -23,14 +27,15 @@ pub fn need(tally: &mut Tally) {
         tally.need(&format!("join: {}", name), least);
     }
     tally.need("join: joined, A and B at one address", LEAST);
+    tally.need(LIMITS, LEAST_OF_MAIN);
     label::need(tally, "join: A", LEAST);
     label::need(tally, "join: B", LEAST);
     internal::need(tally, "join: A", LEAST);
     internal::need(tally, "join: B", LEAST);
-    list::need(tally, "join: A", list::LEAST_OF_SIDES);
-    list::need(tally, "join: B", list::LEAST_OF_SIDES);
-    for name in category_list_calls::join_names() {
-        tally.need(&format!("join: {}", name), LEAST);
+    kind::need(tally, "join: A", LEAST_OF_SIDES);
+    kind::need(tally, "join: B", LEAST_OF_SIDES);
+    for name in category_list_calls::join_names().into_iter().chain(category_limited_calls::join_names()) {
+        tally.need(&format!("join: {}", name), LEAST_OF_KINDS);
     }
 }
 
@@ -81,15 +86,17 @@ impl Comparison {
         let (verdict_a, verdict_b) = verdicts_of(answer);
         self.count_labels("join: A", a);
         self.count_internal("join: A", a, verdict_a);
-        self.count_lists("join: A", a, verdict_a);
+        self.count_kinds("join: A", a, verdict_a);
         if let Some(verdict) = verdict_b {
             self.count_labels("join: B", b);
             self.count_internal("join: B", b, verdict);
-            self.count_lists("join: B", b, verdict);
+            self.count_kinds("join: B", b, verdict);
         }
         self.count_names("join:", category_list_calls::of_join(a, b, room, answer));
+        self.count_names("join:", category_limited_calls::of_join(a, b, room, answer));
         if let JoinAnswer::Length(length) = answer {
             self.joined_passes(&inputs, &expected_out[..length]);
+            self.limits_multiply(&inputs, [a, b, &expected_out[..length]]);
         }
         if one_address && expected == 0 {
             self.tally.count("join: joined, A and B at one address");
@@ -103,6 +110,25 @@ impl Comparison {
         if expected != 0 || got != 0 {
             differ("hookup_check of the joined record", inputs, &expected.to_string(), &got.to_string());
         }
+    }
+
+    /// The limits of A and B, multiplied, are the limit of the joined record, by the second checker and by the product.
+    fn limits_multiply(&mut self, inputs: &[(&str, &[u8])], records: [&[u8]; 3]) {
+        let expected = records.map(|bytes| record::read(bytes).unwrap().limit() as u64);
+        let got = records.map(|bytes| self.limit_of(bytes));
+        if expected != got || expected[0] * expected[1] != expected[2] {
+            let what = "hookup_explain's limits of A, of B and of the joined record";
+            differ(what, inputs, &format!("{:?}", expected), &format!("{:?}", got));
+        }
+        self.tally.count(LIMITS);
+    }
+
+    /// The limit that the product tells of a passing record.
+    fn limit_of(&mut self, bytes: &[u8]) -> u64 {
+        let lent = Lent::new(&mut self.rng, bytes);
+        let mut out = Lent::new(&mut self.rng, &[0; EXPLANATION]);
+        product::explain(&lent, &mut out);
+        u64::from_le_bytes(out.content()[EXPLANATION - 8..].try_into().unwrap())
     }
 
     pub fn join_parts(&mut self, a: &Part, b: &Part) {
@@ -183,7 +209,7 @@ impl Comparison {
             let plan = PairPlan { na, nb, only_a, only_b, shared, clash: Clash::None, observers_differ: false };
             let (a, b) = make::pair(&mut self.rng, plan);
             if round % 4 == 0 {
-                // The longest joined record there is.
+                // The longest joined record of kind 1.
                 self.join_pair(&record::write(&a), &record::write(&b), longest() + round % 3);
             } else {
                 self.join_parts(&a, &b);
@@ -278,6 +304,7 @@ impl Comparison {
             self.join_pair(&a, &b, room);
         }
         self.joins_of_lists();
+        self.joins_of_limited();
     }
 
     /// Document 01's examples of size.

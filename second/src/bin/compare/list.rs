@@ -1,12 +1,10 @@
-//! Categories of kinds and of lists of observers, for each call that takes a record, and the inputs for them.
+//! Inputs for the categories of kinds and of lists of observers.
 
+use crate::kind::{LEAST_OF_KINDS, LEAST_OF_SIDES};
 use crate::{Comparison, LEAST, MOST_TRIES};
 use second::bench::Call;
 use second::cases;
-use second::category::Tally;
-use second::category_list;
 use second::category_list_calls::own_count_name;
-use second::check::Verdict;
 use second::closure::{self, PIECE};
 use second::examples;
 use second::explain::EXPLANATION;
@@ -14,31 +12,7 @@ use second::join;
 use second::make::{self, Clash, PairPlan, Script, OTHER_LISTS};
 use second::record::{self, longest, Part, MOST_LISTED};
 
-/// The least number of cases of a category for A, and for B.
-pub const LEAST_OF_SIDES: usize = LEAST / 4;
-
-/// `call` begins the name of each category.
-pub fn need(tally: &mut Tally, call: &str, least: usize) {
-    for name in category_list::names() {
-        tally.need(&format!("{} {}", call, name), category_list::least_of(&name, least));
-    }
-}
-
 impl Comparison {
-    /// Counts the categories of a record that a call looked at, given Check's verdict on it.
-    pub fn count_lists(&mut self, call: &str, bytes: &[u8], verdict: Verdict) {
-        for name in category_list::of_record(bytes, verdict) {
-            self.tally.count(&format!("{} {}", call, name));
-        }
-    }
-
-    /// Counts the categories of one call alone.
-    pub fn count_names(&mut self, call: &str, names: Vec<String>) {
-        for name in names {
-            self.tally.count(&format!("{} {}", call, name));
-        }
-    }
-
     /// A part for several observers: passing, meant to break, or one of which each sees more than those before.
     fn list_for_debugger(&mut self, round: usize) -> Part {
         let count = make::any_count(&mut self.rng);
@@ -52,23 +26,23 @@ impl Comparison {
 
     /// Closures of several observers, in rooms of each length.
     pub fn closures_of_lists(&mut self) {
-        for bytes in cases::lists(&mut self.rng, LEAST) {
+        for bytes in cases::lists(&mut self.rng, LEAST_OF_KINDS) {
             self.close_record(&bytes);
         }
-        for round in 0..15 * LEAST {
+        for round in 0..15 * LEAST_OF_KINDS {
             let part = self.list_for_debugger(round);
             let block = PIECE * part.state_count();
             let length = closure::length(&part);
             let room = [block, length - block, length - 1, length, length + 1][round / 3 % 5];
             self.close(&record::write(&part), room);
         }
-        for _ in 0..8 * LEAST {
+        for _ in 0..8 * LEAST_OF_KINDS {
             let count = make::any_count(&mut self.rng);
             let n = self.rng.range(3, 8);
             let part = make::seeing_more(&mut self.rng, n, count);
             self.close(&record::write(&part), closure::length(&part));
         }
-        for _ in 0..LEAST {
+        for _ in 0..LEAST_OF_KINDS {
             let m = self.rng.range(1, 4);
             let part = make::staying_list(&mut self.rng, 64, m, MOST_LISTED);
             self.close(&record::write(&part), closure::length(&part));
@@ -77,10 +51,10 @@ impl Comparison {
 
     /// Explanations of several observers.
     pub fn explanations_of_lists(&mut self) {
-        for bytes in cases::lists(&mut self.rng, LEAST) {
+        for bytes in cases::lists(&mut self.rng, LEAST_OF_KINDS) {
             self.explain(&bytes, EXPLANATION);
         }
-        for round in 0..20 * LEAST {
+        for round in 0..20 * LEAST_OF_KINDS {
             let part = self.list_for_debugger(round);
             self.explain(&record::write(&part), EXPLANATION);
         }
@@ -111,11 +85,11 @@ impl Comparison {
     /// Joins of several observers with as many, with fewer and with others.
     pub fn joins_of_lists(&mut self) {
         for bytes in cases::lists(&mut self.rng, LEAST_OF_SIDES) {
-            let good = record::write(&make::any_passing_or_list(&mut self.rng));
+            let good = record::write(&make::any_of_kinds(&mut self.rng));
             self.join_pair(&bytes, &good, 100);
             self.join_pair(&good, &bytes, longest());
         }
-        for _ in 0..6 * LEAST {
+        for _ in 0..6 * LEAST_OF_KINDS {
             let (a, b) = make::joinable_lists(&mut self.rng);
             self.join_parts(&a, &b);
             let other = self.rng.pick(&OTHER_LISTS);
@@ -123,7 +97,7 @@ impl Comparison {
             self.join_parts(&a, &fewer);
             self.join_parts(&fewer, &a);
         }
-        for round in 0..2 * LEAST {
+        for round in 0..2 * LEAST_OF_KINDS {
             let mut plan = self.plan_of_lists(2, 2);
             plan.shared = 1;
             plan.clash = if round % 2 == 0 { Clash::Kind } else { Clash::Level };
@@ -132,7 +106,7 @@ impl Comparison {
             self.join_planned(plan);
         }
         self.joins_of_short_buffers();
-        for round in 0..LEAST {
+        for round in 0..LEAST_OF_KINDS {
             let (a, b) = self.longest_pair();
             self.join_pair(&record::write(&a), &record::write(&b), longest() + round % 3);
         }
@@ -150,7 +124,7 @@ impl Comparison {
 
     /// Refusals 9, 10 and 11 of several observers, two of them at a time and without room.
     fn joins_refused_without_room(&mut self) {
-        for round in 0..4 * LEAST {
+        for round in 0..4 * LEAST_OF_KINDS {
             let (na, nb, clash) = [(9, 8, Clash::None), (9, 8, Clash::Kind), (2, 2, Clash::Level)][round % 3];
             let mut plan = self.plan_of_lists(na, nb);
             plan.shared = plan.shared.max(1);
@@ -173,11 +147,11 @@ impl Comparison {
 
     /// Joins with buffers that are a byte short, and that would do for the first observer alone.
     fn joins_of_short_buffers(&mut self) {
-        for _ in 0..LEAST {
+        for _ in 0..LEAST_OF_KINDS {
             let (a, b) = make::joinable_lists(&mut self.rng);
             let joined = join::joined_part(&a, &b);
             let length = record::write(&joined).len();
-            let alone = record::write(&Part { observers: joined.observers[..1].to_vec(), ..joined }).len();
+            let alone = record::write(&joined.as_kind_1()).len();
             for room in [length - 1, alone] {
                 self.join_pair(&record::write(&a), &record::write(&b), room);
             }
@@ -186,7 +160,7 @@ impl Comparison {
 
     /// Scripts with parts for several observers.
     pub fn replays_of_lists(&mut self, path: &str) {
-        let records = cases::lists(&mut self.rng, LEAST + LEAST / 4);
+        let records = cases::lists(&mut self.rng, LEAST_OF_KINDS + LEAST_OF_KINDS / 4);
         self.replay_loads(path, &records, 80_000);
         self.replay_loads(path, &records, 6);
         self.replay_uncleared(path, &records);
@@ -205,10 +179,12 @@ impl Comparison {
             self.replay_racks_of_lists(path);
             self.replay_pairs_of_lists(path, round);
         }
-        for _ in 0..LEAST / 4 {
+        for _ in 0..LEAST / 5 {
             let (a, b) = self.longest_pair();
             let (calls, total) = make::hookup_calls(&a, &b);
             self.replay_calls(path, total, &calls);
+            let load = [Call::Load(record::write(&make::staying_list(&mut self.rng, 64, 32, MOST_LISTED)))];
+            self.replay_calls(path, make::capacity_needed(&load), &load);
         }
     }
 
@@ -217,8 +193,8 @@ impl Comparison {
         let (a, b) = make::joinable_lists(&mut self.rng);
         let (calls, total) = make::hookup_calls(&a, &b);
         let joined = join::joined_part(&a, &b);
-        let others = (joined.observers.len() - 1) * joined.state_count() + joined.observers.len();
-        for capacity in [total, total - 1, total - others] {
+        let alone = total - record::write(&joined).len() + record::write(&joined.as_kind_1()).len();
+        for capacity in [total, total - 1, alone] {
             self.replay_calls(path, capacity, &calls);
         }
         let load = [Call::Load(record::write(&a))];

@@ -10,7 +10,9 @@ mod closure;
 mod explain;
 mod internal;
 mod join;
+mod kind;
 mod label;
+mod limited;
 mod list;
 mod product;
 mod replay;
@@ -63,7 +65,7 @@ impl Comparison {
     }
 }
 
-/// Document 01's examples of records, starred or not, and those for requests i and k.
+/// Document 01's examples of records, starred or not, and those for requests i, k and l.
 fn all_examples() -> Vec<Vec<u8>> {
     vec![
         examples::p(),
@@ -86,6 +88,12 @@ fn all_examples() -> Vec<Vec<u8>> {
         record::write(&examples::t_for_two([0, 0, 0], [0, 0, 1])),
         record::write(&examples::t_for_two([0, 0, 1], [0, 0, 1])),
         record::write(&examples::lower_rule_at_the_second()),
+        examples::guard(),
+        examples::guard_with(&[(13, 0)]),
+        examples::z_limited(),
+        examples::t_limited([0, 1, 2]),
+        examples::t_limited([0, 0, 1]),
+        examples::t_limited([0, 1, 0]),
     ]
 }
 

@@ -1,14 +1,14 @@
 //! Compares the program `replay`: its whole output, a process for each script. Loads and sessions.
 
 use crate::internal;
+use crate::kind::{self, LEAST_OF_KINDS};
 use crate::label;
-use crate::list;
 use crate::product::run_program;
 use crate::report::{differ, shown};
 use crate::{all_examples, Comparison, LEAST, LEAST_OF_MAIN};
 use second::cases;
 use second::category::Tally;
-use second::category_list_replay;
+use second::category_kind_replay;
 use second::category_replay::{self, verdict_of_load};
 use second::examples;
 use second::join;
@@ -22,11 +22,11 @@ const LOAD: &str = "replay: load,";
 pub fn need(tally: &mut Tally) {
     for name in category_replay::names() {
         let least = if category_replay::is_main(&name) { LEAST_OF_MAIN } else { LEAST };
-        tally.need(&format!("replay: {}", name), category_list_replay::least_of(&name, least));
+        tally.need(&format!("replay: {}", name), category_kind_replay::least_of(&name, least));
     }
     label::need(tally, LOAD, LEAST);
     internal::need(tally, LOAD, LEAST);
-    list::need(tally, LOAD, LEAST);
+    kind::need(tally, LOAD, LEAST_OF_KINDS);
 }
 
 impl Comparison {
@@ -57,7 +57,7 @@ impl Comparison {
                 if let Some(verdict) = verdict_of_load(*answer) {
                     self.count_labels(LOAD, record);
                     self.count_internal(LOAD, record, verdict);
-                    self.count_lists(LOAD, record, verdict);
+                    self.count_kinds(LOAD, record, verdict);
                 }
             }
         }
@@ -153,6 +153,7 @@ impl Comparison {
         self.replay_last_identifier(path);
         self.replay_odd_scripts(path);
         self.replays_of_lists(path);
+        self.replays_of_limited(path);
     }
 
     fn replay_sessions(&mut self, path: &str) {

@@ -1,8 +1,8 @@
 //! Compares the program `verdict`: its whole output, a process for each record.
 
 use crate::internal;
+use crate::kind;
 use crate::label;
-use crate::list;
 use crate::product::run_program;
 use crate::report::differ;
 use crate::{all_examples, Comparison, LEAST, MOST_TRIES};
@@ -23,7 +23,7 @@ pub fn need(tally: &mut Tally) {
     tally.need(&format!("verdict: {}", category::QUIET_REMOVED), LEAST);
     label::need(tally, "verdict:", LEAST_OF_EVENTS);
     internal::need(tally, "verdict:", LEAST_OF_EVENTS);
-    list::need(tally, "verdict:", LEAST_OF_EVENTS);
+    kind::need(tally, "verdict:", LEAST_OF_EVENTS);
     tally.need("verdict: empty input", LEAST);
     tally.need("verdict: 65536 bytes", LEAST);
     tally.need("verdict: longer, 65536 bytes judged", LEAST);
@@ -61,7 +61,7 @@ impl Comparison {
             }
             self.count_labels("verdict:", input);
             self.count_internal("verdict:", input, verdict);
-            self.count_lists("verdict:", input, verdict);
+            self.count_kinds("verdict:", input, verdict);
         }
     }
 
@@ -71,6 +71,7 @@ impl Comparison {
         inputs.extend(cases::mislabelled(&mut self.rng, LEAST_OF_EVENTS));
         inputs.extend(cases::internal(&mut self.rng, LEAST_OF_EVENTS));
         inputs.extend(cases::lists(&mut self.rng, LEAST_OF_EVENTS));
+        inputs.extend(cases::limited(&mut self.rng, LEAST_OF_EVENTS));
         inputs.extend(cases::breaking(&mut self.rng, LEAST));
         inputs.extend(cases::passing(&mut self.rng, LEAST));
         inputs.extend(cases::quiet(&mut self.rng, LEAST));
