@@ -22,7 +22,7 @@ use Rattle.partition.specs.Classes as classes-of
 use Rattle.partition.proofs.Limits as limits
 use Rattle.part.specs.declared.format.Form.{Form}
 use Rattle.part.specs.Format.{form}
-use Rattle.part.specs.Record.{lead, form-of, columns, observers, observer, states, start, events, column, fine-column, class, fine}
+use Rattle.part.specs.Record.{kind, lead, form-of, columns, observers, observer, states, start, events, column, fine-column, class, fine}
 use Rattle.part.specs.Record.{identifier, event-kind, level, row}
 use Rattle.screening.specs.Rejections.{Accepted}
 use Rattle.part.specs.Frame.{fields-of}
@@ -85,6 +85,10 @@ module _ (a b : List ℕ) (h : Bytes a) (k : Bytes b) (p : Accepted a) (q : Acce
   pub joined-back : Agree (fields-of (joined a b)) (joined-fields a b)
   unfolding joined
   joined-back = read-back (joined-fields a b) (proper-fits (joined-fields a b) (joined-proper a b h k p q j))
+
+  joined-kind-read : kind (joined a b) ≡ joined-kind a b
+  unfolding joined-fields
+  joined-kind-read = joined-back .kinds
 
   pub joined-states : states (joined a b) ≡ states a * states b
   unfolding joined-fields
@@ -276,7 +280,8 @@ module _ (a b : List ℕ) (h : Bytes a) (k : Bytes b) (p : Accepted a) (q : Acce
       alike k x x' y y' w e f here there = rw (here, there, ← e, ← f) w
 
 pub joined-hookup : JoinedHookup
-joined-hookup a b h k p q j r = (pairs a b h k p q j, λ s t. refl, hookup a b h k p q j r, partition a b h k p q j)
+joined-hookup a b h k p q j r =
+    (pairs a b h k p q j, λ s t. refl, hookup a b h k p q j r, partition a b h k p q j, joined-kind-read a b h k p q j)
 
 -- ---- its limit
 

@@ -15,7 +15,7 @@ joined-passes a b h k u v none-there =
     let (q, S) = passes-exactly b .0 v in
     let j = joins-exactly a b p q .0 none-there in
     let r = joined-accepted a b h k p q j in
-    let (pairs, numbered, hookup, partition) = joined-hookup a b h k p q j r in
+    let (pairs, numbered, hookup, partition, its-kind) = joined-hookup a b h k p q j r in
     passes-exactly (joined a b) .1 (
       r,
       λ o l.

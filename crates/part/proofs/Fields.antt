@@ -16,8 +16,8 @@ use lib.Seq.{getD-take, getD-drop}
 use Rattle.words.specs.LittleEndian.{byte}
 use Rattle.part.specs.declared.format.Form.{Form}
 use Rattle.part.specs.declared.format.Counts.{Counts}
-use Rattle.part.specs.Format.{single-kind, several-kind, limited-kind, least-listed, max-observers, lists-at, one-observer, several-observers, limited-part, form, columns-at, column-at}
-use Rattle.part.specs.Format.{record-size, max-states, max-record}
+use Rattle.part.specs.Format.{single-kind, several-kind, limited-kind, least-listed, max-observers, lists-at, one-observer, several-observers, limited-part, form, column-at}
+use Rattle.part.specs.Format.{record-size, max-record}
 use Rattle.part.specs.Frame.{Few, Narrow, Framed}
 use Rattle.part.specs.Record.{kind, lead, states, events, counts, form-of, observers, column, fine-column, class, classes-below}
 use Rattle.part.specs.Record.{row-at}

@@ -3,7 +3,6 @@ ghost use mathlib.Core.Path.{_≡_};
 ghost use Prim.Native.Nat.{_+_, _<_, _≤_, _^_, max};
 ghost use mathlib.Core.Bool.{true};
 ghost use lib.ListN.{length};
-ghost use Rattle.words.specs.LittleEndian.{byte};
 ghost use Rattle.words.specs.Arrays.{Filled, words-of};
 ghost use Rattle.part.specs.Format.{header, lists-at};
 ghost use Rattle.part.specs.Frame.{Few};

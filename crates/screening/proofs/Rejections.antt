@@ -10,7 +10,7 @@ use lib.ListN.{length}
 use lib.Dec.{ltb, leb, eqb}
 use borrow.Author.Tests.{ltb-false, leb-false, eqb-true, eq-eqb, ne-eqb, not-false, lt-ltb, le-ltb, lt-leb}
 use Rattle.bounded.specs.Search.{any}
-use Rattle.bounded.proofs.Search.{or-left, or-right, or-then, is-true, true-or-false, any-none}
+use Rattle.bounded.proofs.Search.{or-left, or-right, or-then, is-true, any-none}
 use Rattle.words.specs.LittleEndian.{byte}
 use Rattle.partition.specs.Classes.{crosses}
 use Rattle.part.specs.Format.{single-kind, several-kind, limited-kind, least-listed, max-observers, max-states, max-events, lists-at, body-size}

@@ -1,18 +1,11 @@
 -- Records on which the rejections are computed: P, Z and records of kinds 2 and 3 are accepted, and each damaged record has its number. Some break
 -- two conditions, so that the order counts; some stand at a limit.
 use Prim.Native.Nat.{ℕ, _+_}
-use mathlib.Core.Path.{_≡_, refl}
 use mathlib.Core.Bool.{Bool, true, _&&_}
 use mathlib.Core.List.{List, [], _∷_, _++_}
 use lib.Dec.{T, eqb}
 use lib.ListN.{length, take, set, replicate}
-use Rattle.bounded.specs.Search.{first, or-else, each}
-use Rattle.machine.specs.Machine.{input, output, Event, absent, event}
 use Rattle.words.specs.LittleEndian.{number, digits}
-use Rattle.part.specs.Format.{form, record-size}
-use Rattle.part.specs.Layout.{body, layout}
-use Rattle.part.specs.Record.{kind, lead, observers, observer, column, counts, row-at, row, states, events, entry-at, identifier, event-kind, level}
-use Rattle.part.specs.Events.{kind-of, at-place, place, event-of}
 use Rattle.part.specs.Samples.{P, Z, two-observers, resetting}
 use Rattle.screening.specs.Computed.{rejected-with}
 

@@ -1,8 +1,8 @@
 // The rejections of a record, in order (specs/Rejections.antt): one function for each condition, and two cascades.
 ghost use mathlib.Core.Path.{_≡_};
-ghost use Prim.Native.Nat.{_+_, _<_};
+ghost use Prim.Native.Nat.{_<_};
 ghost use mathlib.Core.Bool.{false};
-ghost use Rattle.part.specs.Record.{observers, observer, states, events, identifier};
+ghost use Rattle.part.specs.Record.{observers, observer, events, identifier};
 ghost use Rattle.bounded.specs.Search.{any};
 ghost use Rattle.part.specs.Frame.{Framed};
 ghost use Rattle.screening.specs.Faults.{candidates, has-fault};

@@ -1,6 +1,5 @@
 use mathlib.Core.Path.{_≡_, refl, sym, ap, _∙_}
 use mathlib.Core.List.{[], _∷_}
-use native.Mathlib.Omega.{arith}
 use borrow.Author.Needs.{needs}
 use Rattle.restrictive.specs.Verdict.{breaks, verdict}
 use Rattle.restrictive.specs.Answers.{violation-of, verdict-of}

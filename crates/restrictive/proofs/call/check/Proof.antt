@@ -1,7 +1,6 @@
 use mathlib.Core.Path.{_≡_, refl, sym, ap, _∙_}
 use mathlib.Core.Option.{none}
 use denote.Ref.{now}
-use native.Mathlib.Omega.{arith}
 use Rattle.screening.specs.Rejections.{rejection}
 use Rattle.screening.specs.Answers.{rejection-of}
 use Rattle.restrictive.specs.Answers.{verdict-of}

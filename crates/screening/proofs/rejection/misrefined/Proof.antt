@@ -1,12 +1,10 @@
-use Prim.Native.Nat.{_<_}
 use mathlib.Core.Path.{_≡_, sym, ap, _∙_}
 use mathlib.Core.Bool.{false}
 use denote.Ref.{now}
 use native.Mathlib.Omega.{arith}
-use lib.ListN.{length}
 use Rattle.bounded.proofs.Search.{any-none}
 use Rattle.part.specs.Format.{limited-kind}
-use Rattle.part.specs.Record.{kind, states, observers, column, fine-column}
+use Rattle.part.specs.Record.{kind, column, fine-column}
 use Rattle.part.proofs.Fields.{own-column, own-fine-column, column-size}
 use Rattle.screening.specs.Rejections.{unnumbered, misnumbered, misnumbered-at}
 use Rattle.screening.proofs.Rejections.{no-fine, fine-unnumbered, last-fine-test}

@@ -1,6 +1,5 @@
 use mathlib.Core.Path.{sym, _∙_}
 use mathlib.Core.Logic.{inl, inr}
-use borrow.Author.Needs.{needs}
 use Rattle.screening.proofs.Rejections.{long, kind-known, kind-other}
 use Rattle.screening.proofs.rejection.wrong_kind.Statement.{statement}
 use Rattle.screening.proofs.rejection.wrong_kind.Tie as tie
