@@ -1,57 +1,46 @@
 -- Records that tell the definitions of Join from their wrong readings: the numbering of states and classes, the order of the merged entries,
 -- a shared event that moves both parts, lists of observers, fine columns and limits, and the order of the answers.
-use Prim.Native.Nat.{ℕ, _+_, _*_}
+use Prim.Native.Nat.{ℕ}
 use mathlib.Core.Bool.{Bool, true, _&&_}
 use mathlib.Core.List.{List, [], _∷_, _++_}
 use lib.Dec.{T, eqb}
 use lib.ListN.{length, set, take, replicate}
-use Rattle.words.specs.LittleEndian.{digits}
 use Rattle.words.specs.Laid.{over}
-use Rattle.part.specs.Samples.{P, Q, Z, resetting}
+use Rattle.part.specs.Samples.{P, Q, Z, entry, bytes-of, resetting}
 use Rattle.restrictive.specs.Verdict.{refused}
 use Rattle.restrictive.specs.Judged.{told, broken-at}
 use Rattle.composite.specs.Joining.{refusal, clash, first-record, second-record, Joining, length-is, unfit, stopped, buffer-after}
 use Rattle.composite.specs.Computed.{hooked, answered, same-bytes, same-answer}
 
--- An entry of a low event, and a record for observer 0 from its start, classes, entries and rows.
-abbrev entry : ℕ → ℕ → List ℕ
-entry identifier kind = identifier ∷ 0 ∷ kind ∷ 0 ∷ []
-
-abbrev words : List ℕ → List ℕ
-words [] = []
-words (r ∷ rs) = digits 8 r ++ words rs
-
+-- A record for observer 0 from its start, classes, entries and rows.
 unfoldable sample : ℕ → List ℕ → ℕ → List ℕ → List ℕ → List ℕ
-sample start classes m entries rows =
-    digits 4 (4 + length classes + 4 * m + 8 * length rows) ++ 1 ∷ 0 ∷ 0 ∷ length classes ∷ start ∷ m ∷ []
-    ++ classes ++ entries ++ words rows
+sample start classes m entries rows = bytes-of 1 0 (length classes) start m [] classes entries rows
 
 -- Two parts with events of their own. The pair (a, b) is state 3 a + b, its class 2 cA + cB; event 4 stands before event 5.
 abbrev toggles : List ℕ
-toggles = sample 1 (0 ∷ 1 ∷ []) 1 (entry 5 0) (2 ∷ 1 ∷ [])
+toggles = sample 1 (0 ∷ 1 ∷ []) 1 (entry 5 0 0) (2 ∷ 1 ∷ [])
 
 abbrev wanders : List ℕ
-wanders = sample 2 (0 ∷ 0 ∷ 1 ∷ []) 1 (entry 4 1) (2 ∷ 5 ∷ 0 ∷ [])
+wanders = sample 2 (0 ∷ 0 ∷ 1 ∷ []) 1 (entry 4 1 0) (2 ∷ 5 ∷ 0 ∷ [])
 
 abbrev side-by-side : List ℕ
 side-by-side =
-    sample 5 (0 ∷ 0 ∷ 1 ∷ 2 ∷ 2 ∷ 3 ∷ []) 2 (entry 4 1 ++ entry 5 0)
+    sample 5 (0 ∷ 0 ∷ 1 ∷ 2 ∷ 2 ∷ 3 ∷ []) 2 (entry 4 1 0 ++ entry 5 0 0)
     (2 ∷ 5 ∷ 0 ∷ 16 ∷ 40 ∷ 0 ∷ 8 ∷ 16 ∷ 32 ∷ 1 ∷ 2 ∷ 4 ∷ [])
 
 -- Two parts that share event 7: it moves both, and is internal.
 abbrev sender : List ℕ
-sender = sample 0 (0 ∷ 0 ∷ []) 1 (entry 7 1) (2 ∷ 1 ∷ [])
+sender = sample 0 (0 ∷ 0 ∷ []) 1 (entry 7 1 0) (2 ∷ 1 ∷ [])
 
 abbrev receiver : List ℕ
-receiver = sample 0 (0 ∷ 0 ∷ []) 1 (entry 7 0) (3 ∷ 2 ∷ [])
+receiver = sample 0 (0 ∷ 0 ∷ []) 1 (entry 7 0 0) (3 ∷ 2 ∷ [])
 
 abbrev together : List ℕ
-together = sample 0 (0 ∷ 0 ∷ 0 ∷ 0 ∷ []) 1 (entry 7 2) (12 ∷ 8 ∷ 3 ∷ 2 ∷ [])
+together = sample 0 (0 ∷ 0 ∷ 0 ∷ 0 ∷ []) 1 (entry 7 2 0) (12 ∷ 8 ∷ 3 ∷ 2 ∷ [])
 
 -- A record of kind 2 without events, start 0: levels, number of states, and class columns, one behind the other.
 unfoldable listing : List ℕ → ℕ → List ℕ → List ℕ
-listing levels n columns =
-    digits 4 (4 + length levels + length columns) ++ 2 ∷ 0 ∷ length levels ∷ n ∷ 0 ∷ 0 ∷ [] ++ levels ++ columns
+listing levels n columns = bytes-of 2 (length levels) n 0 0 levels columns [] []
 
 -- Two parts with two observers. In each column the class of a pair goes by B's number of classes in that column: 1 in the first, 2 in the
 -- second. With the other's number it would be 0 0 2 2 and 0 1 0 1, with one number for both columns likewise.
@@ -66,8 +55,7 @@ two-joined = listing (0x00 ∷ 0x40 ∷ []) 4 (0 ∷ 0 ∷ 1 ∷ 1 ∷ 0 ∷ 1 �
 
 -- A record of kind 3 without events, start 0, with these classes and fine classes.
 unfoldable finely : List ℕ → List ℕ → List ℕ
-finely classes fine =
-    digits 4 (4 + length classes + length fine) ++ 3 ∷ 0 ∷ 0 ∷ length classes ∷ 0 ∷ 0 ∷ [] ++ classes ++ fine
+finely classes fine = bytes-of 3 0 (length classes) 0 0 [] (classes ++ fine) [] []
 
 -- A limited part, with two fine classes in its second class, and a part of kind 1, whose classes stand for its fine ones. The column of
 -- classes goes by B's number of classes and the fine one by its number of fine classes, 3 and not 2 in the second join. Zeros for the fine

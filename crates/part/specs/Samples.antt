@@ -1,6 +1,7 @@
--- The records of document 01, "Examples", and records of any size.
-use Prim.Native.Nat.{ℕ}
+-- The records of document 01, "Examples", small records of the other kinds, and records of any size.
+use Prim.Native.Nat.{ℕ, _+_, _*_}
 use mathlib.Core.List.{List, [], _∷_, _++_}
+use lib.ListN.{length}
 use Rattle.words.specs.LittleEndian.{digits}
 use Rattle.part.specs.Format.{single-kind}
 use Rattle.part.specs.Layout.{Table, Fields, layout}
@@ -58,6 +59,20 @@ limited-sample =
     ++ 0x00 ∷ 0x01 ∷ []
     ++ 0x01 ∷ 0x00 ∷ 0x00 ∷ 0x40 ∷ []
     ++ digits 8 2 ++ digits 8 1
+
+-- An entry with an identifier below 256, and rows.
+abbrev pub entry : ℕ → ℕ → ℕ → List ℕ
+entry identifier kind level = identifier ∷ 0 ∷ kind ∷ level ∷ []
+
+abbrev pub words : List ℕ → List ℕ
+words [] = []
+words (r ∷ rs) = digits 8 r ++ words rs
+
+-- The bytes of a record from its kind, the four numbers of its body, what is listed, its columns one behind the other, entries and rows.
+abbrev pub bytes-of : ℕ → ℕ → ℕ → ℕ → ℕ → List ℕ → List ℕ → List ℕ → List ℕ → List ℕ
+bytes-of kind lead n start m lists columns entries rows =
+    digits 4 (4 + length lists + length columns + length entries + 8 * length rows) ++ kind ∷ 0 ∷ lead ∷ n ∷ start ∷ m ∷ []
+    ++ lists ++ columns ++ entries ++ words rows
 
 -- A record of kind 1: a table, and one observer with its level and the class of each state.
 abbrev pub observed : Table → ℕ → (ℕ → ℕ) → Fields

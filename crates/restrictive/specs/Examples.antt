@@ -1,27 +1,19 @@
 -- Records that tell the rules, the count, the order of the observers and the limit from their wrong readings (document 01, "Wrong readings";
 -- document 02, f, i, k and l).
-use Prim.Native.Nat.{ℕ, _+_, _*_}
+use Prim.Native.Nat.{ℕ}
 use mathlib.Core.Bool.{Bool, _&&_}
 use mathlib.Core.List.{List, [], _∷_, _++_}
 use lib.Dec.{T, eqb}
 use lib.ListN.{length}
-use Rattle.words.specs.LittleEndian.{number, digits}
+use Rattle.words.specs.LittleEndian.{number}
+use Rattle.part.specs.Samples.{entry, bytes-of}
 use Rattle.restrictive.specs.Verdict.{Verdict, pass, refused}
 use Rattle.restrictive.specs.Earlier.{holds-kind, as-output-byte, as-outputs}
 use Rattle.restrictive.specs.Judged.{judged, counted, told, same, broken-at, broken-for}
 
--- An entry, and a record for observer 0 with start 0 from classes, entries and rows.
-abbrev entry : ℕ → ℕ → ℕ → List ℕ
-entry identifier kind level = identifier ∷ 0 ∷ kind ∷ level ∷ []
-
-abbrev words : List ℕ → List ℕ
-words [] = []
-words (r ∷ rs) = digits 8 r ++ words rs
-
+-- A record for observer 0 with start 0 from classes, entries and rows.
 unfoldable sample : List ℕ → ℕ → List ℕ → List ℕ → List ℕ
-sample classes m entries rows =
-    digits 4 (4 + length classes + 4 * m + 8 * length rows) ++ 1 ∷ 0 ∷ 0 ∷ length classes ∷ 0 ∷ m ∷ []
-    ++ classes ++ entries ++ words rows
+sample classes m entries rows = bytes-of 1 0 (length classes) 0 m [] classes entries rows
 
 -- Low output 1 stays in state 0; state 1, of the same class, answers only after the silent step by 2.
 abbrev silent-before : List ℕ
@@ -147,8 +139,7 @@ counts = tt
 -- A record of kind 2 with two states and start 0, for observers of the levels 0x00 and 0x40: their class columns, one behind the other,
 -- then entries and rows.
 unfoldable for-two : List ℕ → ℕ → List ℕ → List ℕ → List ℕ
-for-two columns m entries rows =
-    digits 4 (10 + 4 * m + 8 * length rows) ++ 2 ∷ 0 ∷ 2 ∷ 2 ∷ 0 ∷ m ∷ 0x00 ∷ 0x40 ∷ [] ++ columns ++ entries ++ words rows
+for-two columns m entries rows = bytes-of 2 2 2 0 m (0x00 ∷ 0x40 ∷ []) columns entries rows
 
 reported-for : List ℕ → Verdict → ℕ → Bool
 unfolding judged counted for-two
@@ -210,9 +201,7 @@ several = tt
 
 -- A record of kind 3 for observer 0 with start 0, from classes, fine classes, entries and rows.
 unfoldable finely : List ℕ → List ℕ → ℕ → List ℕ → List ℕ → List ℕ
-finely classes fine m entries rows =
-    digits 4 (4 + length classes + length fine + 4 * m + 8 * length rows) ++ 3 ∷ 0 ∷ 0 ∷ length classes ∷ 0 ∷ m ∷ []
-    ++ classes ++ fine ++ entries ++ words rows
+finely classes fine m entries rows = bytes-of 3 0 (length classes) 0 m [] (classes ++ fine) entries rows
 
 -- The verdict, the count and the limit.
 limited-so : List ℕ → Verdict → ℕ → ℕ → Bool

@@ -71,7 +71,7 @@ taken-by b (breaks v) = cond (eqb (v .rule) 4 || eqb (v .rule) 5) (closure-sizes
 unfoldable pub taken : List ℕ → ℕ
 taken b = taken-by b (verdict b)
 
--- The limit of a record: the largest number of fine classes in one class. Only a limited part, which has one observer, has more than one.
+-- The limit of a record: the largest number of fine classes in one class. For other kinds than 3 it is 1; kind 3 has one observer.
 unfoldable pub limit : List ℕ → ℕ
 limit b = partition.limit (states b) (byte (column b 0)) (byte (fine-column b 0))
 

@@ -1,12 +1,11 @@
 -- Records on which the rejections are computed: P, Z and records of kinds 2 and 3 are accepted, and each damaged record has its number. Some break
 -- two conditions, so that the order counts; some stand at a limit.
-use Prim.Native.Nat.{ℕ, _+_}
+use Prim.Native.Nat.{ℕ}
 use mathlib.Core.Bool.{Bool, true, _&&_}
 use mathlib.Core.List.{List, [], _∷_, _++_}
 use lib.Dec.{T, eqb}
 use lib.ListN.{length, take, set, replicate}
-use Rattle.words.specs.LittleEndian.{number, digits}
-use Rattle.part.specs.Samples.{P, Z, two-observers, resetting}
+use Rattle.part.specs.Samples.{P, Z, two-observers, bytes-of, resetting}
 use Rattle.screening.specs.Computed.{rejected-with}
 
 -- A number, and a record that is rejected with it.
@@ -25,13 +24,11 @@ all-said (l ∷ ls) = eqb (rejected-with (l .bytes)) (l .number) && all-said ls
 
 -- A record of kind 2 with one state and no event, for observers of these levels.
 abbrev listing : List ℕ → List ℕ
-listing levels =
-    digits 4 (4 + length levels + length levels) ++ 2 ∷ 0 ∷ length levels ∷ 1 ∷ 0 ∷ 0 ∷ [] ++ levels ++ replicate (length levels) 0
+listing levels = bytes-of 2 (length levels) 1 0 0 levels (replicate (length levels) 0) [] []
 
 -- A record of kind 3 without events, with these classes and fine classes.
 abbrev limited : List ℕ → List ℕ → List ℕ
-limited classes fine =
-    digits 4 (4 + length classes + length fine) ++ 3 ∷ 0 ∷ 0 ∷ length classes ∷ 0 ∷ 0 ∷ [] ++ classes ++ fine
+limited classes fine = bytes-of 3 0 (length classes) 0 0 [] (classes ++ fine) [] []
 
 abbrev table : List Line
 table =
