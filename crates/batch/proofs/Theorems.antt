@@ -1,27 +1,31 @@
--- Demand 3 about one call of the code.
-use Prim.Native.Nat.{ℕ, _+_, _≤_, _<_}
-use mathlib.Core.Path.{_≡_, sym, ap, _∙_}
-use mathlib.Core.List.{List, [], _∷_}
-use mathlib.Core.Option.{some}
+-- Demand 3 about runs.
+use Prim.Native.Nat.{ℕ, suc, _+_, _*_, _≤_, _<_}
+use mathlib.Core.Path.{_≡_, refl, sym, ap, _∙_}
+use mathlib.Core.Bool.{Bool, true, false, cond}
+use mathlib.Core.List.{List, [], _∷_, _++_}
+use mathlib.Core.Option.{Option, none, some}
 use native.Mathlib.Omega.{arith}
+use lib.Dec.{ltb}
 use lib.ListN.{length, take, drop, length-drop}
-use lib.Seq.{length-take-le, getD-take, getD-drop}
+use lib.Seq.{length-take-le, getD-take, getD-drop, take-append-seam, drop-append-seam}
 use Rattle.words.specs.LittleEndian.{Bytes}
 use Rattle.words.specs.Laid.{over}
 use Rattle.words.proofs.LittleEndian.{byte-lt}
+use Rattle.words.proofs.LaidLaws.{over-nothing}
 use Rattle.script.specs.Operation as script
 use Rattle.script.specs.Operation.{operation, size}
 use Rattle.script.proofs.Operations.{Stands, a-clear, a-load, a-hookup, a-count, a-part, at-end, cut-off, another}
 use Rattle.script.proofs.Operations.{stands}
 use Rattle.store.specs.Answer.{Answer}
 use Rattle.store.specs.Model.{Call, clear, load, hookup}
-use Rattle.store.specs.Demand.{BytesLoaded}
+use Rattle.store.specs.Demand.{step, shelf-after, shelf-answers, BytesLoaded}
 use Rattle.store.proofs.Theorems.{demand3}
 use Rattle.batch.specs.Script.{call-of, calls}
 use Rattle.batch.specs.Slots.{slots}
-use Rattle.batch.specs.Theorems.{RunDemand3}
+use Rattle.batch.specs.Running.{Left, run-calls, run}
+use Rattle.batch.specs.Runs.{Run, left, made, all-made, shelf-after-runs, buffers-after, dealt, BytesRun}
+use Rattle.batch.specs.Theorems.{RunsDemand3}
 use Rattle.batch.proofs.Calls.{calls-some-left, calls-first}
-use Rattle.batch.proofs.Runs.{run-all}
 
 -- ---- the records that a script of bytes loads
 
@@ -57,15 +61,101 @@ loaded (c ∷ cs) s b e =
     loaded-one cs b (stands s) (f .is ∙ ap some first)
     (loaded cs (drop n s) (bytes-drop n s b) (f .behind ∙ ap some rest))
 
+loaded-both : (cs ds : List Call) → BytesLoaded cs → BytesLoaded ds → BytesLoaded (cs ++ ds)
+loaded-both [] ds a b = b
+loaded-both (clear ∷ cs) ds a b = loaded-both cs ds a b
+loaded-both (load r ∷ cs) ds a b = (a .0, loaded-both cs ds (a .1) b)
+loaded-both (hookup i j ∷ cs) ds a b = loaded-both cs ds a b
+
+loaded-made : (r : Run) → Bytes (r .script) → BytesLoaded (made r)
+unfolding made
+loaded-made r b = go (calls (r .script)) refl
+  where
+    unless : (x : Bool) (cs : List Call) → BytesLoaded cs → BytesLoaded (cond x [] cs)
+    unless true cs l = tt
+    unless false cs l = l
+
+    go : (o : Option (List Call)) → calls (r .script) ≡ o → BytesLoaded (made r)
+    go none q = rw (q, made) tt
+    go (some cs) q =
+        rw (q, made) (unless (ltb (length (r .out)) (length cs * 64)) cs (loaded cs (r .script) b q))
+
+loaded-all : (rs : List Run) → BytesRun rs → BytesLoaded (all-made rs)
+unfolding all-made
+loaded-all [] b = tt
+loaded-all (r ∷ rs) b = loaded-both (made r) (all-made rs) (loaded-made r (b .0)) (loaded-all rs (b .1))
+
+-- ---- one list of calls
+
+shelf-both : (cs ds : List Call) (s : List ℕ) → shelf-after (cs ++ ds) s ≡ shelf-after ds (shelf-after cs s)
+unfolding shelf-after
+shelf-both [] ds s = refl
+shelf-both (c ∷ cs) ds s = shelf-both cs ds (step c s .shelf)
+
+answers-both : (cs ds : List Call) (s : List ℕ)
+    → shelf-answers (cs ++ ds) s ≡ shelf-answers cs s ++ shelf-answers ds (shelf-after cs s)
+unfolding shelf-after shelf-answers
+answers-both [] ds s = refl
+answers-both (c ∷ cs) ds s =
+    ap (λ (more : List Answer). step c s .answer ∷ more) (answers-both cs ds (step c s .shelf))
+
+as-many : (cs : List Call) (s : List ℕ) → length (shelf-answers cs s) ≡ length cs
+unfolding shelf-answers
+as-many [] s = refl
+as-many (c ∷ cs) s = ap suc (as-many cs (step c s .shelf))
+
+-- ---- the runs
+
+-- A run makes its calls: all of the script's, or none.
+run-made : (r : Run) (s : List ℕ)
+    → (left r s .shelf ≡ shelf-after (made r) s)
+    × (left r s .answers ≡ over (r .out) 0 (slots (shelf-answers (made r) s)))
+unfolding made run run-calls shelf-after shelf-answers slots
+run-made r s = go (calls (r .script)) refl
+  where
+    Makes : Left → List Call → Type 0
+    Makes l cs = (l .shelf ≡ shelf-after cs s) × (l .answers ≡ over (r .out) 0 (slots (shelf-answers cs s)))
+
+    fits : (cs : List Call) (x : Bool) → ltb (length (r .out)) (length cs * 64) ≡ x
+        → Makes (run-calls cs s (r .out)) (cond x [] cs)
+    fits cs true q = rw (q, run-calls) (refl, sym (over-nothing (r .out) 0))
+    fits cs false q = rw (q, run-calls) (refl, refl)
+
+    go : (o : Option (List Call)) → calls (r .script) ≡ o → Makes (left r s) (made r)
+    go none q = rw (q, run, made) (refl, sym (over-nothing (r .out) 0))
+    go (some cs) q = rw (q, run, made) (fits cs (ltb (length (r .out)) (length cs * 64)) refl)
+
+runs-shelf : (rs : List Run) (s : List ℕ) → shelf-after-runs rs s ≡ shelf-after (all-made rs) s
+unfolding shelf-after-runs all-made shelf-after
+runs-shelf [] s = refl
+runs-shelf (r ∷ rs) s =
+    rw (run-made r s .0) (runs-shelf rs (shelf-after (made r) s)) ∙ sym (shelf-both (made r) (all-made rs) s)
+
+runs-answers : (rs : List Run) (s : List ℕ) → buffers-after rs s ≡ dealt rs (shelf-answers (all-made rs) s)
+unfolding buffers-after all-made dealt
+runs-answers [] s = refl
+runs-answers (r ∷ rs) s =
+    let mine = shelf-answers (made r) s in
+    let others = shelf-answers (all-made rs) (shelf-after (made r) s) in
+    rw (
+      run-made r s .0,
+      run-made r s .1,
+      answers-both (made r) (all-made rs) s,
+      ← as-many (made r) s,
+      take-append-seam mine others,
+      drop-append-seam mine others,
+    )
+    (ap (λ (more : List (List ℕ)). over (r .out) 0 (slots mine) ∷ more) (runs-answers rs (shelf-after (made r) s)))
+
 -- ---- demand 3
 
-pub run-demand3 : RunDemand3
-run-demand3 script s out cs b e six room =
-    let whole = run-all script s out (clear ∷ cs) e room in
-    let m = demand3 s six cs (loaded (clear ∷ cs) script b e) in
+pub runs-demand3 : RunsDemand3
+runs-demand3 runs s cs b e six =
+    let m = demand3 s six cs (rw e at (loaded-all runs b)) in
     record {
-      outcome = sym (whole .0);
-      shelf = sym (whole .1 .0);
-      same-answers = sym (whole .1 .1) ∙ ap (λ (answers : List Answer). over out 0 (slots answers)) (m .same-answers);
+      shelf = rw (← e) (runs-shelf runs s);
+      same-answers = runs-answers runs s
+          ∙ ap (λ (made : List Call). dealt runs (shelf-answers made s)) e
+          ∙ ap (dealt runs) (m .same-answers);
       meets = m;
     }

@@ -4,5 +4,6 @@ pub mod Performed
 pub mod Running
 pub mod Answers
 pub mod Listing
+pub mod Runs
 pub mod Theorems
 pub mod Examples

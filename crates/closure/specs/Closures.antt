@@ -1,12 +1,11 @@
 -- The closures of a part as bytes, and what the call that writes them answers (requests c and f).
 use Prim.Native.Nat.{ℕ}
 use mathlib.Core.List.{List, _++_}
-use mathlib.Core.Option.{Option, none, some}
+use mathlib.Core.Option.{Option}
 use lib.Dec.{ltb}
 use lib.ListN.{length}
 use Rattle.bounded.specs.Search.{or-else, when, each}
 use Rattle.words.specs.Arrays.{padded}
-use Rattle.words.specs.Laid.{over}
 use Rattle.words.specs.LittleEndian.{digits}
 use Rattle.words.specs.Sets.{mask}
 use Rattle.part.specs.Record.{observers, states}
@@ -31,8 +30,3 @@ pieces b = each (observers b) (block b)
 -- The first refusal, for a buffer of so many bytes: the record's, else 15 where the pieces do not fit.
 unfoldable pub refusal : List ℕ → ℕ → Option ℕ
 refusal b room = or-else (rejection b) (when (ltb room (length (pieces b))) 15)
-
--- The buffer after the call: the pieces from its start on, or unchanged.
-unfoldable pub buffer-after : Option ℕ → List ℕ → List ℕ → List ℕ
-buffer-after none bytes out = over out 0 bytes
-buffer-after (some k) bytes out = out

@@ -4,13 +4,19 @@ ghost use Prim.Native.Nat.{_≤_};
 ghost use lib.ListN.{length};
 ghost use Rattle.restrictive.specs.Verdict.{Violation, breaks, verdict};
 ghost use Rattle.restrictive.specs.Answers.{verdict-of};
+ghost use Rattle.words.specs.Laid.{laid-unless};
 ghost use Rattle.closure.specs.Closures as closures;
 ghost use Rattle.explain.specs.Explanation as explanations;
 ghost use Rattle.explain.specs.Explanation.{explained};
 ghost use Rattle.composite.specs.Joined.{joined};
 ghost use Rattle.composite.specs.Joining.{joining, buffer-after};
 ghost use Rattle.composite.specs.Answers.{side-of, obstacle-of};
-ghost use Rattle.hookup.specs.Numbers.{check-number, side-number, obstacle-number, join-number, closure-number};
+ghost use Rattle.inventory.specs.Inventory.{count-told, part-told, bytes, refusal};
+ghost use Rattle.inventory.specs.Answers as inventory;
+ghost use Rattle.batch.specs.Running.{run};
+ghost use Rattle.hookup.specs.Numbers.{check-number, side-number, obstacle-number, join-number, refusal-number, run-number};
+use batch::answer::Running;
+use batch::run::run;
 use closure::answer::Listing;
 use closure::call::list_closures;
 use composite::answer::Joining;
@@ -18,6 +24,9 @@ use composite::answer::Obstacle;
 use composite::answer::Side;
 use explain::answer::Explaining;
 use explain::call::explain;
+use inventory::answer::Telling;
+use inventory::call::tell_count;
+use inventory::call::tell_part;
 use join::call::join;
 use restrictive::Verdict;
 use restrictive::call::check;
@@ -55,6 +64,17 @@ fn obstacle_number(o: Obstacle) -> u32
     }
 }
 
+fn telling_number(t: Telling) -> u32
+    ensures { λ k. ⌜ k ≡ refusal-number (inventory.refusal-of t) ⌝ }
+{
+    match t {
+        Telling::Written => 0,
+        Telling::NoEnd => 12,
+        Telling::NoPart => 13,
+        Telling::NoRoom => 15,
+    }
+}
+
 // 0 for a pass, the refusal's number, or 100 plus the rule for a break.
 #[no_mangle]
 pub extern "C" fn hookup_check(bytes: &[u8]) -> u32
@@ -83,8 +103,8 @@ pub extern "C" fn hookup_join<'a>(a: &'a [u8], b: &'a [u8], out: &mut [u8]) -> u
 // 0 where the closures of the record's states are written, or the refusal's number.
 #[no_mangle]
 pub extern "C" fn hookup_closure(bytes: &[u8], out: &mut [u8]) -> u32
-    ensures { λ k. ⌜ k ≡ closure-number (closures.refusal (now (bytes .entry)) (length (now (out .entry)))) ⌝ }
-    ensures { λ k. ⌜ now (out .exit) ≡ closures.buffer-after (closures.refusal (now (bytes .entry)) (length (now (out .entry)))) (closures.pieces (now (bytes .entry))) (now (out .entry)) ⌝ }
+    ensures { λ k. ⌜ k ≡ refusal-number (closures.refusal (now (bytes .entry)) (length (now (out .entry)))) ⌝ }
+    ensures { λ k. ⌜ now (out .exit) ≡ laid-unless (closures.refusal (now (bytes .entry)) (length (now (out .entry)))) (closures.pieces (now (bytes .entry))) (now (out .entry)) ⌝ }
 {
     let answer = list_closures(bytes, out);
     match answer {
@@ -105,4 +125,39 @@ pub extern "C" fn hookup_explain(bytes: &[u8], out: &mut [u8]) -> u32
         Explaining::Told(v) => check_number(v),
         Explaining::NoRoom => 15,
     }
+}
+
+// 0 where all calls of the script were made on the shelf, with an answer to each at the start of answers; 99 or 15 where none was.
+#[no_mangle]
+pub extern "C" fn hookup_run(script: &[u8], shelf: &mut [u8], answers: &mut [u8]) -> u32
+    ensures { λ k. ⌜ k ≡ run-number (run (now (script .entry)) (now (shelf .entry)) (now (answers .entry)) .outcome) ⌝ }
+    ensures { λ k. ⌜ now (shelf .exit) ≡ run (now (script .entry)) (now (shelf .entry)) (now (answers .entry)) .shelf ⌝ }
+    ensures { λ k. ⌜ now (answers .exit) ≡ run (now (script .entry)) (now (shelf .entry)) (now (answers .entry)) .answers ⌝ }
+{
+    let outcome = run(script, shelf, answers);
+    match outcome {
+        Running::Ran(_) => 0,
+        Running::Malformed => 99,
+        Running::TooFew => 15,
+    }
+}
+
+// 0 where the number of the shelf's records is written, or the refusal's number.
+#[no_mangle]
+pub extern "C" fn hookup_count(shelf: &[u8], out: &mut [u8]) -> u32
+    ensures { λ k. ⌜ k ≡ refusal-number (refusal (count-told (now (shelf .entry))) (length (now (out .entry)))) ⌝ }
+    ensures { λ k. ⌜ now (out .exit) ≡ laid-unless (refusal (count-told (now (shelf .entry))) (length (now (out .entry)))) (bytes (count-told (now (shelf .entry)))) (now (out .entry)) ⌝ }
+{
+    let answer = tell_count(shelf, out);
+    telling_number(answer)
+}
+
+// 0 where the place and the length of record i are written, or the refusal's number.
+#[no_mangle]
+pub extern "C" fn hookup_part(shelf: &[u8], i: usize, out: &mut [u8]) -> u32
+    ensures { λ k. ⌜ k ≡ refusal-number (refusal (part-told (now (shelf .entry)) i) (length (now (out .entry)))) ⌝ }
+    ensures { λ k. ⌜ now (out .exit) ≡ laid-unless (refusal (part-told (now (shelf .entry)) i) (length (now (out .entry)))) (bytes (part-told (now (shelf .entry)) i)) (now (out .entry)) ⌝ }
+{
+    let answer = tell_part(shelf, i, out);
+    telling_number(answer)
 }

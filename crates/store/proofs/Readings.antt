@@ -1,5 +1,5 @@
 -- What Count and Part read off a walk: the records stand at the start of the shelf, one behind the other.
-use Prim.Native.Nat.{ℕ, zero, suc, _≤_}
+use Prim.Native.Nat.{ℕ, zero, suc, _≤_, _<_}
 use mathlib.Core.Path.{_≡_, refl, sym, ap, _∙_}
 use mathlib.Core.List.{List, [], _∷_, _++_, flatten, append-assoc}
 use mathlib.Core.Option.{Option, none, some, Option·map}
@@ -10,11 +10,12 @@ use lib.Seq.{length-take-le}
 use Rattle.store.specs.Answer.{gives, refused}
 use Rattle.store.specs.Walk.{Front, end-record, record-of, neither, front, walk-at-most, walk, records}
 use Rattle.store.specs.Found.{Ends}
-use Rattle.store.specs.Reading.{count, part}
+use Rattle.store.specs.Reading.{count, part, place}
 use Rattle.store.specs.Demand.{Begins}
-use Rattle.store.specs.Theorems.{NoPart, no-end, no-record, PartEmptyExactly}
+use Rattle.store.specs.Theorems.{NoPart, no-end, no-record, PartEmptyExactly, PartStands}
 use Rattle.store.proofs.Each.{Each, each-at}
 use Rattle.store.proofs.Fronts.{record-whole}
+use Rattle.store.proofs.Steps.{walked-by, walked-record, walked-length, walked-at}
 
 -- ---- Count
 
@@ -107,6 +108,26 @@ part-empty-exactly s i = (empty-none (walk s) refl, none-empty)
     none-empty : NoPart s i → part s i ≡ []
     none-empty (no-end q) = sym (part-none s i (rw (q, records) (omega arith)))
     none-empty (no-record q h) = sym (part-none s i (rw (q, records) h))
+
+-- Where there are records, there is an end record behind them.
+some-walked : (s : List ℕ) (i : ℕ) → i < length (records s) → walk s ≡ some (records s)
+unfolding records
+some-walked s i l = go (walk s) refl
+  where
+    go : (o : Option (List (List ℕ))) → walk s ≡ o → walk s ≡ some (records s)
+    go none q = let none-there : records s ≡ [] = rw (q, records) in absurd (omega (arith, ap length none-there))
+    go (some rs) q = let same : records s ≡ rs = rw (q, records) in rw same q
+
+pub part-stands : PartStands
+unfolding part
+part-stands s i l =
+    let e = some-walked s i l in
+    let w = walked-at s i e (omega arith) in
+    let long = walked-length s (place s i) i (records s) w e l in
+    record {
+      within = rw (← long) (walked-by s (place s i) i (records s) w e l .within);
+      so = rw (← long) (walked-record s (place s i) i (records s) w e l);
+    }
 
 record-within : (rs : List (List ℕ)) (i : ℕ) → length (getD rs i []) ≤ length (flatten rs)
 unfolding flatten

@@ -6,10 +6,11 @@ use mathlib.Core.Option.{Option, none, some, Option·map}
 use native.Mathlib.Nat.{not-suc-le-zero, add-zero}
 use native.Mathlib.Omega.{arith}
 use lib.ListN.{length, take, drop, getD, length-drop, length-append}
-use lib.Seq.{take-add, drop-drop, getD-append-add, length-take-le}
+use lib.Seq.{take-add, drop-drop, getD-append-add, length-take-le, take-append-seam}
 use Rattle.words.specs.LittleEndian.{number}
 use Rattle.part.specs.Record.{body-length}
 use Rattle.store.specs.Walk.{Front, end-record, record-of, neither, front, walk-at-most, walk, records}
+use Rattle.store.specs.Reading.{part, place}
 use Rattle.store.specs.Found.{Ends}
 use Rattle.store.proofs.Fronts.{record-whole, body-at}
 
@@ -167,3 +168,31 @@ module _ (s : List ℕ) (at n : ℕ) (rs : List (List ℕ)) (w : Walked s at n) 
       go none q = let z : _≡_ {A = ℕ} 0 1 = cc in absurd (omega arith)
       go (some qs) q = let all : w .passed ++ take size (drop at s) ∷ qs ≡ rs = cc in
           rw (← all, ← w .many) (sym (rw add-zero at (getD-append-add (w .passed) (take size (drop at s) ∷ qs) 0 [])))
+
+  -- So long is it.
+  pub walked-length : 6 + number 4 s at ≡ length (getD rs n [])
+  walked-length =
+      let left = length-drop at s in
+      sym (length-take-le (6 + number 4 s at) (drop at s) (omega (arith, walked-by .within))) ∙ ap length walked-record
+
+-- ---- where the records stand
+
+-- A walk that has passed n records stands at the place of the next.
+pub walked-place : (s : List ℕ) (at n : ℕ) → Walked s at n → walk s ≡ some (records s) → at ≡ place s n
+unfolding place
+walked-place s at n w e = go (walk (drop at s)) (sym (w .rest) ∙ e)
+  where
+    go : (o : Option (List (List ℕ))) → Option·map (λ (qs : List (List ℕ)). w .passed ++ qs) o ≡ some (records s)
+        → at ≡ place s n
+    go none q = let z : _≡_ {A = ℕ} 0 1 = cc in absurd (omega arith)
+    go (some qs) q =
+        let all : w .passed ++ qs ≡ records s = cc in
+        rw (← all, ← w .many, take-append-seam (w .passed) qs, w .begins) (sym (length-take-le at s (w .within)))
+
+-- To each of the places a walk leads.
+pub walked-at : (s : List ℕ) (i : ℕ) → walk s ≡ some (records s) → i ≤ length (records s) → Walked s (place s i) i
+walked-at s zero e l = let w = walked-none s in rw (← walked-place s 0 0 w e) w
+walked-at s (suc i) e l =
+    let w = walked-by s (place s i) i (records s) (walked-at s i e (omega arith)) e (omega arith) in
+    let one : suc i ≡ i + 1 = omega arith in
+    rw (one, ← walked-place s _ (i + 1) w e) w

@@ -1,61 +1,19 @@
--- Shelves on which the calls and the model are computed: document 01's 17 and 16 bytes, and shelves that have no end
--- record.
+-- Shelves on which the calls and the model are computed: document 01's 17 and 16 bytes, shelves that have no end record,
+-- and shelves with records that do not pass.
 use Prim.Native.Nat.{ℕ}
-use mathlib.Core.Bool.{Bool, true, false, _&&_}
-use mathlib.Core.List.{List, [], _∷_, flatten}
-use lib.Dec.{T, eqb}
+use mathlib.Core.Bool.{Bool, _&&_}
+use mathlib.Core.List.{List, [], _∷_, _++_}
+use lib.Dec.{T}
 use lib.ListN.{replicate, set, take}
-use Rattle.words.specs.Laid.{over}
-use Rattle.words.specs.LittleEndian.{number}
-use Rattle.part.specs.Record.{body-length, kind}
 use Rattle.part.specs.Samples.{P, Q, Z, two-observers}
-use Rattle.restrictive.specs.Judged.{judged, same-violation}
-use Rattle.composite.specs.Computed.{hooked, answered}
-use Rattle.store.specs.Answer.{Answer, gives, refused, clash, breaks, obstacle-answer}
-use Rattle.store.specs.Walk.{front, walk-at-most, walk, records}
-use Rattle.store.specs.Calls as shelf
-use Rattle.store.specs.Calls.{end-bytes, append, append-joined, hookup-of, passes}
-use Rattle.store.specs.Model as model
-use Rattle.store.specs.Model.{Call, clear, load, hookup, answers}
-use Rattle.store.specs.Demand.{step, shelf-answers}
+use Rattle.store.specs.Answer.{Answer, gives, refused, clash, breaks}
+use Rattle.store.specs.Model.{Call, clear, load, hookup}
+use Rattle.store.specs.Computed.{same-answers, told, plainly}
 
--- Two answers are the same.
-abbrev same-answer : Answer → Answer → Bool
-same-answer (gives m) (gives n) = eqb m n
-same-answer (gives m) (refused k) = false
-same-answer (gives m) (clash e) = false
-same-answer (gives m) (breaks v) = false
-same-answer (refused j) (gives n) = false
-same-answer (refused j) (refused k) = eqb j k
-same-answer (refused j) (clash e) = false
-same-answer (refused j) (breaks v) = false
-same-answer (clash d) (gives n) = false
-same-answer (clash d) (refused k) = false
-same-answer (clash d) (clash e) = eqb d e
-same-answer (clash d) (breaks v) = false
-same-answer (breaks w) (gives n) = false
-same-answer (breaks w) (refused k) = false
-same-answer (breaks w) (clash e) = false
-same-answer (breaks w) (breaks v) = same-violation w v
-
--- Two lists of answers are the same.
-abbrev same-answers : List Answer → List Answer → Bool
-same-answers [] [] = true
-same-answers [] (y ∷ ys) = false
-same-answers (x ∷ xs) [] = false
-same-answers (x ∷ xs) (y ∷ ys) = same-answer x y && same-answers xs ys
-
--- The calls on a shelf of so many bytes 0xAA.
+-- The answers on a shelf of so many bytes 0xAA.
 unfoldable run : ℕ → List Call → List Answer
-unfolding judged hooked answered shelf-answers step shelf.clear shelf.load shelf.hookup hookup-of append-joined append
-    passes obstacle-answer walk walk-at-most front records end-bytes flatten over body-length kind number
-run n calls = shelf-answers calls (replicate n 0xAA)
-
--- The calls in the model.
-unfoldable plainly : ℕ → List Call → List Answer
-unfolding judged hooked answered answers model.step model.load-record model.hookup-records model.append
-    obstacle-answer flatten
-plainly n calls = answers n calls []
+unfolding told
+run n calls = told (replicate n 0xAA) calls
 
 -- The second and third appends are found again: Q's input 2 clashes with the joined part's internal event 2.
 abbrev calls : List Call
@@ -90,8 +48,22 @@ expected-for-two =
     gives 0 ∷ gives 0 ∷ breaks (record { level = 0x40; rule = 2; event = 1; s = 0; t = 1; u = 0 }) ∷ gives 1 ∷ gives 2 ∷ refused 9 ∷ refused 9
     ∷ gives 3 ∷ refused 20 ∷ []
 
+-- A shelf that no call has written: P with another grouping, which breaks rule 2, then P, then two bytes of kind 0, then
+-- Z and the end record. 14 asks of i and j alone; 13 for either comes before it, and it comes before 10 and 15.
+abbrev unfit : List ℕ
+unfit = set P 11 1 ++ P ++ (2 ∷ 0 ∷ 0 ∷ 0 ∷ 0 ∷ 0 ∷ 7 ∷ 7 ∷ []) ++ Z ++ replicate 6 0
+
+abbrev calls-on-unfit : List Call
+calls-on-unfit =
+    hookup 0 1 ∷ hookup 1 0 ∷ hookup 0 0 ∷ hookup 2 3 ∷ hookup 3 2 ∷ hookup 0 4 ∷ hookup 4 0 ∷ hookup 1 1 ∷ hookup 1 3 ∷ load Z ∷ hookup 3 3
+    ∷ []
+
+abbrev expected-on-unfit : List Answer
+expected-on-unfit =
+    refused 14 ∷ refused 14 ∷ refused 14 ∷ refused 14 ∷ refused 14 ∷ refused 13 ∷ refused 13 ∷ clash 1 ∷ refused 15 ∷ gives 4 ∷ refused 15 ∷ []
+
 all-so : Bool
-unfolding run plainly
+unfolding run told plainly
 all-so =
     -- Z on 17 bytes and on 16; a shelf of five bytes; one that was never cleared
     same-answers (run 17 (clear ∷ load Z ∷ [])) (gives 0 ∷ gives 0 ∷ [])
@@ -106,6 +78,8 @@ all-so =
     -- records of both kinds on one shelf
     && same-answers (run 81 calls-for-two) expected-for-two
     && same-answers (plainly 81 calls-for-two) expected-for-two
+    -- records that do not pass, with room for one Z
+    && same-answers (told (unfit ++ replicate 11 0xAA) calls-on-unfit) expected-on-unfit
 
 all-as-written : T all-so
 unfolding all-so

@@ -7,4 +7,5 @@ pub mod Calls
 pub mod Model
 pub mod Theorems
 pub mod Demand
+pub mod Computed
 pub mod Examples

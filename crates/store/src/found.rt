@@ -13,3 +13,9 @@ pub enum Found {
     End(usize, usize),
     NoEnd,
 }
+
+// Where a record stands on the shelf, and how many bytes it has.
+pub struct Extent {
+    pub place: usize,
+    pub size: usize,
+}

@@ -2,8 +2,8 @@
 pub mod answer;
 mod append;
 pub mod call;
-mod found;
+pub mod found;
 mod joined;
 pub mod reading;
-mod record;
-mod walk;
+pub mod record;
+pub mod walk;

@@ -1,8 +1,8 @@
 use mathlib.Core.Path.{refl}
 use borrow.Author.Needs.{needs}
-use Rattle.closure.specs.Closures.{buffer-after}
+use Rattle.words.specs.Laid.{laid-unless}
 use Rattle.closure.specs.Answers.{refusal-of}
-use Rattle.hookup.specs.Numbers.{closure-number}
+use Rattle.hookup.specs.Numbers.{refusal-number}
 use Rattle.hookup.proofs.Numbered.{told}
 use Rattle.hookup.proofs.hookup_closure.Statement.{statement}
 use Rattle.hookup.proofs.hookup_closure.Tie as tie
@@ -26,24 +26,24 @@ same-length : tie.Need-same-length
 same-length c = search needs
 
 returns : tie.Need-returns
-unfolding closure-number refusal-of
-returns c = told refusal-of closure-number buffer-after _ _ (c .enum-told .given .1)
+unfolding refusal-number refusal-of
+returns c = told refusal-of refusal-number laid-unless _ _ (c .enum-told .given .1)
     (c .before .before .before .before .list-closures .ensures) refl
 
 same-length-2 : tie.Need-same-length-2
 same-length-2 c = search needs
 
 returns-2 : tie.Need-returns-2
-unfolding closure-number refusal-of
-returns-2 c = told refusal-of closure-number buffer-after _ _ (c .before .before .answer .given .1)
+unfolding refusal-number refusal-of
+returns-2 c = told refusal-of refusal-number laid-unless _ _ (c .before .before .answer .given .1)
     (c .before .before .before .before .before .before .list-closures .ensures) (c .number .ensures .0)
 
 same-length-3 : tie.Need-same-length-3
 same-length-3 c = search needs
 
 returns-3 : tie.Need-returns-3
-unfolding closure-number refusal-of
-returns-3 c = told refusal-of closure-number buffer-after _ _ (c .enum-told2 .given .1)
+unfolding refusal-number refusal-of
+returns-3 c = told refusal-of refusal-number laid-unless _ _ (c .enum-told2 .given .1)
     (c .before .before .before .before .list-closures .ensures) refl
 
 pub hookup-closure-spec : {M : Type 1} → statement M

@@ -9,7 +9,8 @@ use Rattle.screening.specs.Rejections.{rejection, Accepted}
 use Rattle.screening.specs.Answers.{rejection-of}
 use Rattle.screening.proofs.Ranges.{frame}
 use Rattle.screening.proofs.Accepted.{rejection-none}
-use Rattle.closure.specs.Closures.{pieces, buffer-after}
+use Rattle.words.specs.Laid.{laid-unless}
+use Rattle.closure.specs.Closures.{pieces}
 use Rattle.closure.specs.Answers.{refusal-of}
 use Rattle.closure.proofs.PieceBytes.{length-pieces, few-observers}
 use Rattle.closure.proofs.Refusals.{refused, roomless, roomy}
@@ -23,7 +24,7 @@ enum-known-screened : tie.Need-enum-known-screened
 enum-known-screened c = search needs
 
 returns : tie.Need-returns
-unfolding refusal-of rejection-of buffer-after
+unfolding refusal-of rejection-of laid-unless
 returns c = (
   sym (refused _ _ _
       (sym (c .before .before .before .screen .ensures) ∙ ap rejection-of (c .before .screened .given .1))),
@@ -61,7 +62,7 @@ mul-if1 c =
     omega (arith, mul-le-mul read (c .block-size .ensures .1))
 
 returns-2 : tie.Need-returns-2
-unfolding refusal-of buffer-after
+unfolding refusal-of laid-unless
 returns-2 c = (
   sym (roomless _ _ (accepted (c .before .before .before)) (omega (arith, size (c .before), c .if1 .taken))),
   refl,
@@ -76,7 +77,7 @@ same-length : tie.Need-same-length
 same-length c = search needs
 
 returns-3 : tie.Need-returns-3
-unfolding refusal-of buffer-after
+unfolding refusal-of laid-unless
 returns-3 c =
     let tested = c .before .before .before .before in
     let known = tested .before in (

@@ -1,0 +1,60 @@
+use mathlib.Core.Path.{sym, ap, _∙_}
+use borrow.Author.Needs.{needs}
+use Rattle.batch.specs.Answers.{outcome-of}
+use Rattle.hookup.specs.Numbers.{run-number}
+use Rattle.hookup.proofs.hookup_run.Statement.{statement}
+use Rattle.hookup.proofs.hookup_run.Tie as tie
+
+run-requires : tie.Need-run-requires
+run-requires c κs = search needs
+
+enum-told : tie.Need-enum-told
+enum-told c = search needs
+
+enum-told-2 : tie.Need-enum-told-2
+enum-told-2 c = search needs
+
+enum-told-3 : tie.Need-enum-told-3
+enum-told-3 c = search needs
+
+same-length : tie.Need-same-length
+same-length c = search needs
+
+same-length-2 : tie.Need-same-length-2
+same-length-2 c = search needs
+
+returns : tie.Need-returns
+unfolding run-number outcome-of
+returns c =
+    let (outcome, buffers) = c .before .before .before .before .before .before .run .ensures in
+    (ap run-number (sym (ap outcome-of (c .enum-told .given .1)) ∙ outcome), buffers)
+
+same-length-3 : tie.Need-same-length-3
+same-length-3 c = search needs
+
+same-length-4 : tie.Need-same-length-4
+same-length-4 c = search needs
+
+returns-2 : tie.Need-returns-2
+unfolding run-number outcome-of
+returns-2 c =
+    let (outcome, buffers) = c .before .before .before .before .before .before .run .ensures in
+    (ap run-number (sym (ap outcome-of (c .enum-told2 .given .1)) ∙ outcome), buffers)
+
+same-length-5 : tie.Need-same-length-5
+same-length-5 c = search needs
+
+same-length-6 : tie.Need-same-length-6
+same-length-6 c = search needs
+
+returns-3 : tie.Need-returns-3
+unfolding run-number outcome-of
+returns-3 c =
+    let (outcome, buffers) = c .before .before .before .before .before .before .run .ensures in
+    (ap run-number (sym (ap outcome-of (c .enum-told3 .given .1)) ∙ outcome), buffers)
+
+pub hookup-run-spec : {M : Type 1} → statement M
+hookup-run-spec =
+    tie.close
+    (tie.spec run-requires enum-told enum-told-2 enum-told-3 same-length same-length-2 returns same-length-3
+    same-length-4 returns-2 same-length-5 same-length-6 returns-3)

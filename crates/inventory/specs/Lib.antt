@@ -1,0 +1,3 @@
+pub mod Inventory
+pub mod Answers
+pub mod Examples

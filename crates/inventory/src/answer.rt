@@ -1,0 +1,8 @@
+// The answer of the calls. specs/Answers.antt gives each its number.
+
+pub enum Telling {
+    Written,
+    NoEnd,
+    NoPart,
+    NoRoom,
+}

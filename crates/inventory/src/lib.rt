@@ -1,0 +1,3 @@
+// Count and Part in numbers, for a host program.
+pub mod answer;
+pub mod call;
