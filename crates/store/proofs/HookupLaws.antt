@@ -6,16 +6,20 @@ use mathlib.Core.List.{List, _++_, flatten, append-nil}
 use mathlib.Core.Option.{none, some}
 use native.Mathlib.Nat.{add-zero}
 use native.Mathlib.Omega.{arith}
-use lib.ListN.{length, take, drop, drop-of-length-le, length-drop}
-use lib.Seq.{take-all}
+use lib.ListN.{length, take, drop, drop-of-length-le, length-drop, length-append}
+use lib.Seq.{take-all, take-append-seam}
 use borrow.Author.Tests.{le-leb, lt-leb}
 use borrow.Rule.Slice.PartMut.{midOf, putMid}
 use Rattle.bounded.proofs.Search.{true-not-false}
-use Rattle.words.specs.Laid.{over}
-use Rattle.words.proofs.LaidLaws.{over-append, over-part}
+use Rattle.words.specs.Laid.{over, Laid}
+use Rattle.words.proofs.LaidLaws.{over-append, over-part, laid-start}
+use Rattle.part.specs.Format.{max-record}
+use Rattle.part.proofs.Fields.{record-most}
+use Rattle.screening.proofs.Ranges.{frame}
 use Rattle.restrictive.specs.Verdict.{Verdict, pass, refused, breaks, verdict}
 use Rattle.composite.specs.Joined.{joined}
 use Rattle.composite.specs.Joining.{Obstacle, obstacle}
+use Rattle.join.proofs.JoinAnswers.{passing-accepted}
 use Rattle.store.specs.Answer as answer
 use Rattle.store.specs.Answer.{obstacle-answer}
 use Rattle.store.specs.Walk.{walk, records}
@@ -34,6 +38,28 @@ passes-pass r e = go (verdict r) refl
     go pass q = q
     go (refused k) q = absurd (true-not-false (sym e) (rw (q, passes) refl))
     go (breaks v) q = absurd (true-not-false (sym e) (rw (q, passes) refl))
+
+-- It has no more bytes than a record may have.
+pub passing-fits : (r : List ℕ) → true ≡ passes r → 0 + length r ≤ max-record
+passing-fits r e = omega (arith, record-most r (frame r (passing-accepted r (passes-pass r e))))
+
+-- ---- a copy of a record
+
+-- The first n bytes of a list are the record r.
+pub record Copied (r a : List ℕ) (n : ℕ) : Type 0 where
+  pub within : n ≤ length a
+  pub long : n ≡ length (take n a)
+  pub same : take n a ≡ r
+
+pub copied : {d r a : List ℕ} {n : ℕ} → Laid d 0 r a n → 0 + length r ≤ length d → Copied r a n
+copied {d} {r} {a} {n} laid h =
+    let (count, all) = laid-start laid (omega (arith, laid .behind)) in
+    let same : take n a ≡ r = rw (all, count) (take-append-seam r (drop (length r) d)) in
+    record {
+      within = omega (arith, ap length all, length-append r (drop n d));
+      long = count ∙ sym (ap length same);
+      same = same;
+    }
 
 -- ---- a record over the end record
 

@@ -1,9 +1,5 @@
 // Clear, Load and Hookup (document 01, "The shelf").
 ghost use mathlib.Core.Path.{_≡_};
-ghost use Prim.Native.Nat.{_≤_};
-ghost use lib.ListN.{length};
-ghost use Rattle.words.specs.Arrays.{padded};
-ghost use Rattle.part.specs.Format.{max-record};
 ghost use Rattle.store.specs.Answers.{answer-of};
 ghost use Rattle.store.specs.Calls.{clear, load, passes, hookup};
 use crate::answer::Answer;
@@ -62,17 +58,8 @@ fn passes(r: &[u8]) -> bool
     }
 }
 
-// A copy of the record r, which the shelf may change under, with zeros behind it.
-fn copied(r: &[u8]) -> [u8; Part::RECORD]
-    requires { ⌜ length (now r) ≤ max-record ⌝ }
-    ensures { λ a. ⌜ a ≡ padded max-record (now (r .entry)) ⌝ }
-{
-    let mut a = [0u8; Part::RECORD];
-    lay(r, &mut a, 0);
-    a
-}
-
-// The joined record of records i and j, behind the records that are there.
+// The joined record of records i and j, behind the records that are there. They are copied, since the shelf may not be read while a part of
+// it is written.
 pub fn hookup(s: &mut [u8], i: usize, j: usize) -> Answer
     ensures { λ r. ⌜ answer-of r ≡ hookup (now (s .entry)) i j .answer ⌝ }
     ensures { λ r. ⌜ now (s .exit) ≡ hookup (now (s .entry)) i j .shelf ⌝ }
@@ -95,9 +82,9 @@ pub fn hookup(s: &mut [u8], i: usize, j: usize) -> Answer
     if !passes(second) {
         return Answer::Refused(Answer::UNFIT);
     }
-    let p = first.len();
-    let q = second.len();
-    let a = copied(first);
-    let b = copied(second);
+    let mut a = [0u8; Part::RECORD];
+    let mut b = [0u8; Part::RECORD];
+    let p = lay(first, &mut a, 0);
+    let q = lay(second, &mut b, 0);
     append_joined(s, n, at, &a[..p], &b[..q])
 }

@@ -4,18 +4,12 @@ use native.Mathlib.Omega.{arith}
 use lib.ListN.{length}
 use borrow.Author.Needs.{needs}
 use borrow.Author.Tests.{not-true, not-false}
-use Rattle.words.proofs.Arrays.{padded-front, padded-within}
 use Rattle.restrictive.specs.Verdict.{verdict}
 use Rattle.store.specs.Answers.{answer-of}
 use Rattle.store.specs.Calls.{passes}
 use Rattle.store.specs.Found.{Ends}
-use Rattle.part.proofs.Fields.{record-most}
-use Rattle.screening.proofs.Ranges.{frame}
-use Rattle.join.proofs.JoinAnswers.{passing-accepted}
-use Rattle.store.proofs.HookupLaws.{passes-pass, hookup-no-end, hookup-no-first, hookup-no-second}
-use Rattle.part.proofs.Fields.{record-most}
-use Rattle.screening.proofs.Ranges.{frame}
-use Rattle.join.proofs.JoinAnswers.{passing-accepted}
+use Rattle.store.proofs.HookupLaws.{passes-pass, passing-fits, Copied, copied}
+use Rattle.store.proofs.HookupLaws.{hookup-no-end, hookup-no-first, hookup-no-second}
 use Rattle.store.proofs.HookupLaws.{first-unfit, second-unfit, both-fit}
 use Rattle.store.proofs.call.hookup.Statement.{statement}
 use Rattle.store.proofs.call.hookup.Tie as tie
@@ -101,33 +95,49 @@ returns-5 c =
     (c .before .before .record-at2 .ensures) (first-passes (c .before .before .before))
     (sym (not-true _ (c .if4 .taken)) ∙ c .before .passes2 .ensures)
 
-copied-requires : tie.Need-copied-requires
-copied-requires c κs =
-    record-most _ (frame _ (passing-accepted _ (passes-pass _ (first-passes (c .before .before .before)))))
+slice-aggregate-lay : tie.Need-slice-aggregate-lay
+slice-aggregate-lay c = search needs
 
-copied-requires-2 : tie.Need-copied-requires-2
-copied-requires-2 c κs = record-most _ (frame _ (passing-accepted _ (passes-pass _ (second-passes (c .before)))))
+lay-requires : tie.Need-lay-requires
+lay-requires c κs = passing-fits _ (first-passes (c .before .before .before .before))
+
+slice-aggregate-lay-2 : tie.Need-slice-aggregate-lay-2
+slice-aggregate-lay-2 c = search needs
+
+lay-requires-2 : tie.Need-lay-requires-2
+lay-requires-2 c κs = passing-fits _ (second-passes (c .before .before .before .before))
+
+first-copy : (c : tie.After-lay) → Copied (c .before .before .before .before .before .before .before .record-at .result .now)
+    (c .lay .last .1 .0) (c .lay .result)
+first-copy c = copied (c .lay .ensures) (passing-fits _ (first-passes (c .before .before .before .before .before)))
+
+second-copy : (c : tie.After-lay2) → Copied (c .before .before .before .before .before .before .before .record-at2 .result .now)
+    (c .lay2 .last .1 .0) (c .lay2 .result)
+second-copy c = copied (c .lay2 .ensures) (passing-fits _ (second-passes (c .before .before .before .before .before)))
 
 array-share-prefix-a : tie.Need-array-share-prefix-a
-array-share-prefix-a c = padded-within _ _ (c .before .before .copied .ensures)
+array-share-prefix-a c = first-copy (c .before .before .before .before .before) .within
 
 slice-aggregate-append-joined : tie.Need-slice-aggregate-append-joined
-slice-aggregate-append-joined c = sym (ap length (padded-front _ _ (c .before .before .before .copied .ensures)))
+slice-aggregate-append-joined c = first-copy (c .before .before .before .before .before .before) .long
 
 array-share-prefix-b : tie.Need-array-share-prefix-b
-array-share-prefix-b c = padded-within _ _ (c .before .before .copied2 .ensures)
+array-share-prefix-b c = second-copy (c .before .before .before) .within
 
 slice-aggregate-append-joined-2 : tie.Need-slice-aggregate-append-joined-2
-slice-aggregate-append-joined-2 c = sym (ap length (padded-front _ _ (c .before .before .before .copied2 .ensures)))
+slice-aggregate-append-joined-2 c = second-copy (c .before .before .before .before) .long
 
 append-joined-requires : tie.Need-append-joined-requires
 append-joined-requires c κs =
-    let two = c .before .before .before .before .before in
-    let one = two .before .before .before in
-    let first = padded-front _ _ (c .before .before .before .before .copied .ensures) in
-    let second = padded-front _ _ (c .before .before .before .copied2 .ensures) in (
+    let second = c .before .before .before .before in
+    let first = second .before .before .before in
+    let two = first .before .before in
+    let one = two .before .before .before in (
       found (one .before .before .before .before .before .before .before),
-      (ap verdict first ∙ passes-pass _ (first-passes one), ap verdict second ∙ passes-pass _ (second-passes two)),
+      (
+        ap verdict (first-copy first .same) ∙ passes-pass _ (first-passes one),
+        ap verdict (second-copy second .same) ∙ passes-pass _ (second-passes two),
+      ),
     )
 
 same-length-6 : tie.Need-same-length-6
@@ -135,15 +145,17 @@ same-length-6 c = search needs
 
 returns-6 : tie.Need-returns-6
 returns-6 c =
-    let second = c .before .before .before .before .before .before .before .before in
+    let joined = c .before .before in
+    let second = joined .before .before .before .before .before in
     let first = second .before .before .before in
-    let both = first .before .before .before .before in
+    let two = first .before .before in
+    let one = two .before .before .before in
+    let both = one .before .before .before .before in
     both-fit _ _ _ (found (both .before .before .before)) (both .before .if1 .left) (both .if2 .left)
-    (first .before .before .record-at .ensures)
-    (second .before .before .record-at2 .ensures) (first-passes first) (second-passes second)
-    (padded-front _ _ (c .before .before .before .before .before .before .before .copied .ensures))
-    (padded-front _ _ (c .before .before .before .before .before .before .copied2 .ensures))
-    (c .before .before .append-joined .ensures)
+    (one .before .before .record-at .ensures)
+    (two .before .before .record-at2 .ensures) (first-passes one) (second-passes two)
+    (first-copy first .same) (second-copy second .same)
+    (joined .append-joined .ensures)
 
 pub hookup-spec : {M : Type 1} → statement M
 hookup-spec =
@@ -166,8 +178,10 @@ hookup-spec =
     passes-requires-2
     same-length-5
     returns-5
-    copied-requires
-    copied-requires-2
+    slice-aggregate-lay
+    lay-requires
+    slice-aggregate-lay-2
+    lay-requires-2
     array-share-prefix-a
     slice-aggregate-append-joined
     array-share-prefix-b
