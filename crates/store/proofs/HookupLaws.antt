@@ -40,8 +40,8 @@ passes-pass r e = go (verdict r) refl
     go (breaks v) q = absurd (true-not-false (sym e) (rw (q, passes) refl))
 
 -- It has no more bytes than a record may have.
-pub passing-fits : (r : List ℕ) → true ≡ passes r → 0 + length r ≤ max-record
-passing-fits r e = omega (arith, record-most r (frame r (passing-accepted r (passes-pass r e))))
+pub passing-fits : (r : List ℕ) → true ≡ passes r → length r ≤ max-record
+passing-fits r e = record-most r (frame r (passing-accepted r (passes-pass r e)))
 
 -- ---- a copy of a record
 
@@ -51,7 +51,7 @@ pub record Copied (r a : List ℕ) (n : ℕ) : Type 0 where
   pub long : n ≡ length (take n a)
   pub same : take n a ≡ r
 
-pub copied : {d r a : List ℕ} {n : ℕ} → Laid d 0 r a n → 0 + length r ≤ length d → Copied r a n
+pub copied : {d r a : List ℕ} {n : ℕ} → Laid d 0 r a n → length r ≤ length d → Copied r a n
 copied {d} {r} {a} {n} laid h =
     let (count, all) = laid-start laid (omega (arith, laid .behind)) in
     let same : take n a ≡ r = rw (all, count) (take-append-seam r (drop (length r) d)) in

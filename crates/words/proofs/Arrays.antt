@@ -113,7 +113,3 @@ module _ (n : ℕ) (xs : List ℕ) where
   pub padded-front : {ys : List ℕ} → ys ≡ padded n xs → take (length xs) ys ≡ xs
   unfolding padded
   padded-front e = ap (take (length xs)) e ∙ take-append-seam xs (zeros (n - length xs))
-
-  pub padded-within : {ys : List ℕ} → ys ≡ padded n xs → length xs ≤ length ys
-  unfolding padded
-  padded-within e = omega (arith, ap length e, length-append xs (zeros (n - length xs)))

@@ -1,9 +1,11 @@
+use Prim.Native.Nat.{_≤_}
 use mathlib.Core.Path.{_≡_, sym, ap, _∙_}
 use mathlib.Core.Bool.{true}
 use native.Mathlib.Omega.{arith}
 use lib.ListN.{length}
 use borrow.Author.Needs.{needs}
 use borrow.Author.Tests.{not-true, not-false}
+use Rattle.part.specs.Format.{max-record}
 use Rattle.restrictive.specs.Verdict.{verdict}
 use Rattle.store.specs.Answers.{answer-of}
 use Rattle.store.specs.Calls.{passes}
@@ -98,22 +100,28 @@ returns-5 c =
 slice-aggregate-lay : tie.Need-slice-aggregate-lay
 slice-aggregate-lay c = search needs
 
+-- Each of the two records fits an array.
+fits : (c : tie.Else4)
+    → (length (c .before .before .before .before .before .record-at .result .now) ≤ max-record)
+    × (length (c .before .before .record-at2 .result .now) ≤ max-record)
+fits c = (passing-fits _ (first-passes (c .before .before .before)), passing-fits _ (second-passes c))
+
 lay-requires : tie.Need-lay-requires
-lay-requires c κs = passing-fits _ (first-passes (c .before .before .before .before))
+lay-requires c κs = omega (arith, fits (c .before))
 
 slice-aggregate-lay-2 : tie.Need-slice-aggregate-lay-2
 slice-aggregate-lay-2 c = search needs
 
 lay-requires-2 : tie.Need-lay-requires-2
-lay-requires-2 c κs = passing-fits _ (second-passes (c .before .before .before .before))
+lay-requires-2 c κs = omega (arith, fits (c .before .before .before .before))
 
 first-copy : (c : tie.After-lay) → Copied (c .before .before .before .before .before .before .before .record-at .result .now)
     (c .lay .last .1 .0) (c .lay .result)
-first-copy c = copied (c .lay .ensures) (passing-fits _ (first-passes (c .before .before .before .before .before)))
+first-copy c = copied (c .lay .ensures) (fits (c .before .before) .0)
 
 second-copy : (c : tie.After-lay2) → Copied (c .before .before .before .before .before .before .before .record-at2 .result .now)
     (c .lay2 .last .1 .0) (c .lay2 .result)
-second-copy c = copied (c .lay2 .ensures) (passing-fits _ (second-passes (c .before .before .before .before .before)))
+second-copy c = copied (c .lay2 .ensures) (fits (c .before .before .before .before .before) .1)
 
 array-share-prefix-a : tie.Need-array-share-prefix-a
 array-share-prefix-a c = first-copy (c .before .before .before .before .before) .within
