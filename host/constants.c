@@ -1,6 +1,6 @@
-/* Compares the sizes of hookup.h, its kinds, its struct, the answer that hookup-host never gets, which levels, lists of observers and fine
- * columns are refused, and limits, with the library. A size is right where the library takes it and nothing beyond it. C11, and C++ too;
- * status 1 and a line for each that is wrong. */
+/* Compares the sizes of hookup.h, its kinds, its structs, the answers that hookup-host never gets, which levels, lists of observers and fine
+ * columns are refused, limits, the calls of a script and what is answered on a shelf, in which order, with the library. A size is right
+ * where the library takes it and nothing beyond it. C11, and C++ too; status 1 and a line for each that is wrong. */
 #include <stdio.h>
 #include <string.h>
 
@@ -432,6 +432,255 @@ static void joins(void)
     expect(HOOKUP_OBSERVERS_DIFFER, hookup_join(record, len, above, above_len, out, sizeof out), "a limited part with another observer");
 }
 
+static uint8_t shelf[65536], script[65536];
+
+/* Writes a number of four bytes, lowest first. */
+static void put_number(uint8_t *at, size_t n)
+{
+    for (int k = 0; k < 4; k++)
+        at[k] = (uint8_t)(n >> 8 * k);
+}
+
+/* The script's only call, Load of a record or Hookup, and its length. */
+static size_t load_call(const uint8_t *record, size_t len)
+{
+    script[0] = HOOKUP_LOAD_CALL;
+    put_number(script + 1, len);
+    memcpy(script + HOOKUP_LOAD_BYTES, record, len);
+    return HOOKUP_LOAD_BYTES + len;
+}
+
+static size_t hookup_call(size_t i, size_t j)
+{
+    script[0] = HOOKUP_HOOKUP_CALL;
+    put_number(script + 1, i);
+    put_number(script + 5, j);
+    return HOOKUP_HOOKUP_BYTES;
+}
+
+/* What comes of any first byte with zeros behind it. A zero that is in no call is a Clear, so that only the first byte and the bytes of its
+ * call decide. The call is not made where there is no room for its answer. */
+static void scripts(void)
+{
+    static const size_t bytes[] = {HOOKUP_CLEAR_BYTES, HOOKUP_LOAD_BYTES, HOOKUP_HOOKUP_BYTES};
+    static const size_t firsts[] = {HOOKUP_CLEAR_CALL, HOOKUP_LOAD_CALL, HOOKUP_HOOKUP_CALL};
+    uint8_t zeros[16] = {0};
+    for (size_t first = 0; first < 256; first++)
+        for (size_t len = 1; len <= sizeof zeros; len++) {
+            uint32_t wanted = HOOKUP_MALFORMED;
+            for (size_t k = 0; k < 3; k++)
+                if (first == firsts[k] && len >= bytes[k])
+                    wanted = HOOKUP_NO_ROOM;
+            zeros[0] = (uint8_t)first;
+            expect(wanted, hookup_run(zeros, len, NULL, 0, NULL, 0), "a script of a byte with zeros behind it");
+        }
+    expect(HOOKUP_RAN, hookup_run(NULL, 0, NULL, 0, NULL, 0), "the empty script");
+}
+
+/* Lays a record on the shelf and an end record behind it, and gives the place of that. */
+static size_t lay(size_t at, const uint8_t *record, size_t len)
+{
+    memcpy(shelf + at, record, len);
+    memset(shelf + at + len, 0, HOOKUP_HEADER);
+    return at + len;
+}
+
+/* A shelf of three records: the longest, one that is only a header of an unknown kind, the smallest. Gives the place of the end record, and
+ * the other two. */
+static size_t make_shelf(struct hookup_place *found)
+{
+    static uint8_t record[65536];
+    static const uint8_t header[HOOKUP_HEADER] = {0, 0, 0, 0, 0, 1};
+    memset(record, 0, sizeof record);
+    size_t len = make(record, SEVERAL, HOOKUP_MAX_OBSERVERS, HOOKUP_MAX_STATES, HOOKUP_MAX_EVENTS);
+    size_t second = lay(0, record, len), third = lay(second, header, sizeof header);
+    memset(record, 0, sizeof record);
+    len = make(record, ONE, 0, 1, 0);
+    found[0].place = 0;
+    found[0].length = second;
+    found[1].place = second;
+    found[1].length = sizeof header;
+    found[2].place = third;
+    found[2].length = len;
+    return lay(third, record, len);
+}
+
+static void counts(void)
+{
+    struct hookup_place found[3];
+    uint64_t number;
+    size_t end = make_shelf(found), whole = end + HOOKUP_HEADER;
+    expect_written(hookup_count, shelf, whole, HOOKUP_COUNT, HOOKUP_COUNTED, HOOKUP_COUNT, "the count of three records");
+    memcpy(&number, out, sizeof number);
+    expect(3, number, "their number");
+    expect(HOOKUP_COUNT, sizeof number, "bytes of it");
+    expect_written(hookup_count, shelf, sizeof shelf, HOOKUP_COUNT, HOOKUP_COUNTED, HOOKUP_COUNT, "the same with bytes behind");
+    expect_written(hookup_count, shelf, whole, HOOKUP_COUNT - 1, HOOKUP_NO_ROOM, 0, "room for all but the last byte of the count");
+    expect_written(hookup_count, shelf, whole - 1, HOOKUP_COUNT, HOOKUP_NO_END, 0, "the end record without its last byte");
+    expect_written(hookup_count, shelf, end - 1, 0, HOOKUP_NO_END, 0, "the last record without its last byte, and no room");
+    expect(HOOKUP_NO_END, hookup_count(NULL, 0, NULL, 0), "the count of no shelf");
+}
+
+/* The part whose place find_part asks for. */
+static size_t asked;
+
+static uint32_t find_part(const uint8_t *bytes, size_t len, uint8_t *to, size_t room)
+{
+    return hookup_part(bytes, len, asked, to, room);
+}
+
+static void places(void)
+{
+    struct hookup_place found[3], got;
+    size_t size = HOOKUP_PLACE, end = make_shelf(found), whole = end + HOOKUP_HEADER;
+    expect(size, sizeof got, "bytes of the struct of a place");
+    for (asked = 0; asked < 3; asked++) {
+        expect_written(find_part, shelf, whole, size, HOOKUP_FOUND, size, "a part");
+        memcpy(&got, out, sizeof got);
+        expect(found[asked].place, got.place, "its place");
+        expect(found[asked].length, got.length, "its length");
+        expect_written(find_part, shelf, whole, size - 1, HOOKUP_NO_ROOM, 0, "room for all but the last byte of a place");
+        expect_written(find_part, shelf, whole - 1, size, HOOKUP_NO_END, 0, "a part before no end record");
+    }
+    expect_written(find_part, shelf, whole, 0, HOOKUP_NO_PART, 0, "the number behind the last part, and no room");
+    expect_written(find_part, shelf, whole - 1, 0, HOOKUP_NO_END, 0, "the same and no end record");
+    asked = SIZE_MAX;
+    expect_written(find_part, shelf, whole, size, HOOKUP_NO_PART, 0, "the largest number");
+    expect(HOOKUP_NO_END, hookup_part(NULL, 0, 0, NULL, 0), "a part of no shelf");
+}
+
+/* How many bytes of the shelf stay as they were, up to the first that does not. */
+static size_t unchanged(const uint8_t *before)
+{
+    size_t at = 0;
+    while (at < sizeof shelf && shelf[at] == before[at])
+        at++;
+    return at;
+}
+
+/* Makes the script's only call on the first so many bytes of the shelf. It is to write this answer and nothing behind it, and, unless it is
+ * done, to leave the shelf as it was; without room for all of the answer neither changes. */
+static void expect_answer(size_t len, size_t room, struct hookup_answer wanted, const char *what)
+{
+    static uint8_t before[sizeof shelf];
+    struct hookup_answer got;
+    size_t size = HOOKUP_ANSWER;
+    memcpy(before, shelf, sizeof shelf);
+    memset(out, 0xAA, sizeof out);
+    expect(HOOKUP_NO_ROOM, hookup_run(script, len, shelf, room, out, size - 1), what);
+    expect(0xAA, out[0], "a byte without room");
+    expect(sizeof shelf, unchanged(before), "bytes of the shelf as before, without room");
+    expect(HOOKUP_RAN, hookup_run(script, len, shelf, room, out, sizeof out), what);
+    expect(0xAA, out[size], "the byte behind the answer");
+    memcpy(&got, out, sizeof got);
+    expect(wanted.tag, got.tag, "tag");
+    expect(wanted.number, got.number, what);
+    expect(wanted.event, got.event, "event");
+    expect(wanted.s, got.s, "s");
+    expect(wanted.t, got.t, "t");
+    expect(wanted.u, got.u, "u");
+    expect(wanted.observer, got.observer, "observer");
+    expect(wanted.zero, got.zero, "zero");
+    if (wanted.tag != HOOKUP_GIVES)
+        expect(sizeof shelf, unchanged(before), "bytes of the shelf as before");
+}
+
+static struct hookup_answer answer(uint64_t tag, uint64_t number)
+{
+    struct hookup_answer made = {tag, number, 0, 0, 0, 0, 0, 0};
+    return made;
+}
+
+static struct hookup_answer refused(uint32_t refusal)
+{
+    return answer(HOOKUP_REFUSED, refusal);
+}
+
+/* Clear, and Load of a record that breaks a rule. A wrong length hides the break, no end record both, and the break hides that there is no
+ * room. */
+static void loads(void)
+{
+    static uint8_t record[256], broken[256];
+    static const struct hookup_answer first_break = {HOOKUP_BREAKS, 5, 515, 1, 4, 6, 0x80, 0};
+    size_t end = HOOKUP_HEADER, len = make(record, ONE, 0, 2, 1), broken_len = make_break(broken);
+    expect(HOOKUP_ANSWER, sizeof first_break, "bytes of the struct of an answer");
+    memset(shelf, 0xAA, sizeof shelf);
+    expect_answer(load_call(broken, broken_len - 1), sizeof shelf, refused(HOOKUP_NO_END), "a load on a shelf without an end record");
+    script[0] = HOOKUP_CLEAR_CALL;
+    expect_answer(HOOKUP_CLEAR_BYTES, end - 1, refused(HOOKUP_NO_END), "a clear of five bytes");
+    expect_answer(HOOKUP_CLEAR_BYTES, end, answer(HOOKUP_GIVES, 0), "a clear of six bytes");
+    expect_answer(HOOKUP_CLEAR_BYTES, sizeof shelf, answer(HOOKUP_GIVES, 0), "a clear of more bytes");
+    expect(0xAA, shelf[end], "the byte behind the end record");
+    expect_answer(load_call(broken, broken_len - 1), end, refused(HOOKUP_WRONG_LENGTH), "a load without the last byte");
+    expect_answer(load_call(broken, broken_len), end, first_break, "a load that breaks a rule");
+    expect_answer(load_call(record, len), len + end - 1, refused(HOOKUP_NO_ROOM), "a load with a byte too few");
+    expect_answer(load_call(record, len), len + end, answer(HOOKUP_GIVES, 0), "a load that fits");
+    expect(0, (size_t)memcmp(shelf, record, len), "the difference of the shelf from the record");
+    expect_answer(load_call(record, 0), len + end, refused(HOOKUP_TOO_SHORT), "a load of no bytes");
+    expect_answer(load_call(record, len), sizeof shelf, answer(HOOKUP_GIVES, 1), "a second load");
+    expect(0xAA, shelf[2 * len + end], "the byte behind the new end record");
+}
+
+/* A part without an event, and three with the input 7: of two states, for another observer, and of most states. Another observer hides the
+ * clash, the clash too many states, and these too little room. */
+static void hookups(void)
+{
+    static uint8_t none[64], input[64], above[64], most[65536];
+    size_t none_len = make(none, ONE, 0, 2, 0), input_len = make(input, ONE, 0, 2, 1), above_len = make(above, ONE, 0, 2, 1);
+    size_t most_len = make(most, ONE, 0, HOOKUP_MAX_STATES, 1), end = HOOKUP_HEADER;
+    above[HOOKUP_HEADER] = 0x40;
+    input[8] = 1; /* the start state; the joined record tells which part is the first */
+    entry(input, 0)[0] = entry(above, 0)[0] = entry(most, 0)[0] = 7;
+    size_t at = lay(lay(lay(lay(0, none, none_len), input, input_len), above, above_len), most, most_len);
+    expect_answer(hookup_call(0, 1), at + end - 1, refused(HOOKUP_NO_END), "a hookup on a shelf without an end record");
+    expect_answer(hookup_call(4, 1), at + end, refused(HOOKUP_NO_PART), "a hookup of no first part");
+    expect_answer(hookup_call(1, 4), at + end, refused(HOOKUP_NO_PART), "a hookup of no second part");
+    expect_answer(hookup_call(1, 2), at + end, refused(HOOKUP_OBSERVERS_DIFFER), "a hookup with another observer");
+    expect_answer(hookup_call(1, 3), at + end, answer(HOOKUP_CLASHES, 7), "a hookup that clashes");
+    expect_answer(hookup_call(0, 3), at + end, refused(HOOKUP_TOO_LARGE), "a hookup with too many states");
+    uint8_t joined[128];
+    expect(HOOKUP_JOINED, hookup_join(none, none_len, input, input_len, joined, sizeof joined), "a join");
+    size_t len = HOOKUP_HEADER + joined[0];
+    expect_answer(hookup_call(0, 1), at + len + end - 1, refused(HOOKUP_NO_ROOM), "a hookup with a byte too few");
+    expect_answer(hookup_call(0, 1), at + len + end, answer(HOOKUP_GIVES, 4), "a hookup that fits");
+    expect(0, (size_t)memcmp(shelf + at, joined, len), "the difference of the shelf from the joined record");
+    expect_answer(hookup_call(0, 0), sizeof shelf, answer(HOOKUP_GIVES, 5), "a hookup of a part with itself");
+}
+
+/* A passing part for another observer, a record that breaks a rule and one that is refused, as nothing but another writer leaves them. 13 for
+ * the second part hides 14 for the first, and 14 that the observers differ. Load looks at none of them. */
+static void unfit(void)
+{
+    static uint8_t record[64], broken[256];
+    static const uint8_t header[HOOKUP_HEADER] = {0, 0, 0, 0, 0, 1};
+    size_t len = make(record, ONE, 0, 1, 0), broken_len = make_break(broken);
+    size_t whole = lay(lay(lay(0, record, len), broken, broken_len), header, sizeof header) + HOOKUP_HEADER;
+    for (size_t i = 1; i < 3; i++) {
+        expect_answer(hookup_call(i, 0), whole, refused(HOOKUP_UNFIT), "a hookup of an unfit first part");
+        expect_answer(hookup_call(0, i), whole, refused(HOOKUP_UNFIT), "a hookup of an unfit second part");
+        expect_answer(hookup_call(i, 3), whole, refused(HOOKUP_NO_PART), "a hookup of an unfit first part and no second");
+    }
+    expect_answer(load_call(record, len), sizeof shelf, answer(HOOKUP_GIVES, 3), "a load behind them");
+}
+
+/* A script of two calls: neither is made where the second is cut off, whatever the room, or where the second answer has no room. */
+static void runs(void)
+{
+    static uint8_t record[64];
+    size_t record_len = make(record, ONE, 0, 1, 0), len = HOOKUP_CLEAR_BYTES + load_call(record, record_len), size = 2 * HOOKUP_ANSWER;
+    memmove(script + HOOKUP_CLEAR_BYTES, script, len - HOOKUP_CLEAR_BYTES);
+    script[0] = HOOKUP_CLEAR_CALL;
+    memset(shelf, 0xAA, sizeof shelf);
+    memset(out, 0xAA, sizeof out);
+    expect(HOOKUP_MALFORMED, hookup_run(script, len - 1, shelf, sizeof shelf, out, size - 1), "a second call that is cut off");
+    expect(HOOKUP_NO_ROOM, hookup_run(script, len, shelf, sizeof shelf, out, size - 1), "no room for the second answer");
+    expect(0xAA, shelf[0], "the first byte of the shelf then");
+    expect(0xAA, out[0], "the first byte of the answers then");
+    expect(HOOKUP_RAN, hookup_run(script, len, shelf, sizeof shelf, out, size), "two calls");
+    expect(0, (size_t)memcmp(shelf, record, record_len), "the difference of the shelf from the record");
+    expect(0xAA, out[size], "the byte behind the second answer");
+}
+
 int main(void)
 {
     sizes();
@@ -445,5 +694,12 @@ int main(void)
     refinements();
     limited();
     joins();
+    scripts();
+    counts();
+    places();
+    loads();
+    hookups();
+    unfit();
+    runs();
     return wrong;
 }

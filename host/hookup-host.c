@@ -1,5 +1,5 @@
-/* Checks one part record and explains the answer, joins two and writes the joined record to a file, or prints the silent closures of one.
- * An example of a host program: the four calls of hookup.h, and beside them only C11 and its standard library. */
+/* Checks one part record and explains the answer, joins two and writes the joined record to a file, prints the silent closures of one, or
+ * keeps parts on a shelf. An example of a host program: the calls of hookup.h, and beside them only C11 and its standard library. */
 #include <errno.h>
 #include <inttypes.h>
 #include <stdbool.h>
@@ -11,6 +11,7 @@
 
 enum { DONE = 0, REFUSED = 1, TROUBLE = 2 }; /* the exit statuses */
 enum { FILE_LIMIT = 1048576 };               /* a longer file is not taken */
+enum { SHELF_SIZE = 262144 };                /* bytes of a shelf that is not in a file */
 
 /* What an answer means. An own answer is about one record by itself; Join adds HOOKUP_SECOND to it for its second record. */
 struct meaning {
@@ -21,6 +22,10 @@ struct meaning {
 };
 
 static const struct meaning meanings[] = {
+    {HOOKUP_MALFORMED, false, "the script is malformed", NULL},
+    {HOOKUP_NO_END, false, "the shelf has no end record", NULL},
+    {HOOKUP_NO_PART, false, "no part has that number", NULL},
+    {HOOKUP_UNFIT, false, "a record on the shelf does not pass", NULL},
     {HOOKUP_TOO_SHORT, true, "fewer than six bytes", NULL},
     {HOOKUP_WRONG_LENGTH, true, "the length is not the number of bytes after the first six", NULL},
     {HOOKUP_WRONG_KIND, true, "the kind is none of 1, 2 and 3", NULL},
@@ -35,7 +40,7 @@ static const struct meaning meanings[] = {
     {HOOKUP_OBSERVERS_DIFFER, false, "the observers differ", NULL},
     {HOOKUP_CLASH, false, "a shared event clashes in kind or level", NULL},
     {HOOKUP_TOO_LARGE, false, "more than 64 states or more than 32 events together", NULL},
-    {HOOKUP_NO_ROOM, false, "the output buffer is too short", NULL},
+    {HOOKUP_NO_ROOM, false, "the buffer or the shelf is too short", NULL},
     {HOOKUP_BREAK + 1, true, "rule 1 is broken: an input has no step from some state", NULL},
     {HOOKUP_BREAK + 2, true, "rule 2 is broken: a high input leaves its state's class",
      "rule 2 is broken: a high input leaves its state's coarse class"},
@@ -218,14 +223,17 @@ static const char *words_of(const struct meaning *m, const uint8_t *record)
     return m->limited != NULL && has_kind(record, HOOKUP_LIMITED) ? m->limited : m->words;
 }
 
-/* Prints an answer, and what more this record tells of it. */
-static int print_refusal(uint32_t answer, const char *which, const uint8_t *record)
+/* Prints an answer, and what more this record tells of it. False and errno where that fails. */
+static bool print_answer(uint32_t answer, const char *which, const uint8_t *record)
 {
     const struct meaning *m = find_meaning(answer);
     bool printed = printf("%" PRIu32 ": %s%s", answer, words_of(m, record), which) >= 0;
-    if (printed && m != NULL)
-        printed = print_detail(m->number, record);
-    return after_printing(printed && putchar('\n') != EOF, REFUSED);
+    return printed && (m == NULL || print_detail(m->number, record));
+}
+
+static int print_refusal(uint32_t answer, const char *which, const uint8_t *record)
+{
+    return after_printing(print_answer(answer, which, record) && putchar('\n') != EOF, REFUSED);
 }
 
 /* Bytes in memory that the holder frees. */
@@ -322,10 +330,16 @@ static bool replace_file(const char *path, const uint8_t *at, size_t len)
     return done;
 }
 
-/* A record's first four bytes are the length of its body, lowest first. */
+/* A number of four bytes, lowest first. */
+static uint32_t number_at(const uint8_t *at)
+{
+    return at[0] | (uint32_t)at[1] << 8 | (uint32_t)at[2] << 16 | (uint32_t)at[3] << 24;
+}
+
+/* A record begins with the length of its body. */
 static size_t record_length(const uint8_t *record)
 {
-    return HOOKUP_HEADER + ((size_t)record[0] | (size_t)record[1] << 8 | (size_t)record[2] << 16 | (size_t)record[3] << 24);
+    return HOOKUP_HEADER + (size_t)number_at(record);
 }
 
 /* The limit of a part that passes: 1, or of a limited part what hookup_explain tells. */
@@ -358,17 +372,17 @@ static int check_record(struct bytes record)
 
 /* Prints which event breaks the rule, and at which states; of a limited part also which of its classes are meant. False and errno where that
  * fails. */
-static bool print_break(const struct hookup_explanation *e, bool limited)
+static bool print_steps(const struct hookup_explanation *e, bool limited)
 {
     const char *coarse = limited ? "coarse " : "";
     const char *mates = limited && e->rule > 3 ? "fine " : coarse;
     if (e->rule == 1)
-        return printf("event %" PRIu64 " has no step from state %" PRIu64 "\n", e->event, e->s) >= 0;
+        return printf("event %" PRIu64 " has no step from state %" PRIu64, e->event, e->s) >= 0;
     if (printf("event %" PRIu64 " leads from state %" PRIu64 " to state %" PRIu64, e->event, e->s, e->t) < 0)
         return false;
     if (e->rule == 2)
-        return printf(", of another %sclass\n", coarse) >= 0;
-    return printf("; from state %" PRIu64 ", of the %sclass of %" PRIu64 ", %s into the %sclass of %" PRIu64 "%s\n", e->u, mates, e->s,
+        return printf(", of another %sclass", coarse) >= 0;
+    return printf("; from state %" PRIu64 ", of the %sclass of %" PRIu64 ", %s into the %sclass of %" PRIu64 "%s", e->u, mates, e->s,
                   e->rule == 4 ? "silent steps do not lead" : "it does not lead", coarse, e->t,
                   e->rule == 5 ? ", even with silent steps before and after it" : "") >= 0;
 }
@@ -377,11 +391,17 @@ static bool print_break(const struct hookup_explanation *e, bool limited)
 static bool print_concerned(const struct hookup_explanation *e, struct observers all)
 {
     if (!all.listed)
-        return printf("observer's level: 0x%02" PRIx64 "\n", e->observer) >= 0;
+        return printf("observer's level: 0x%02" PRIx64, e->observer) >= 0;
     int place = 0;
     while (place < all.count - 1 && all.levels[place] != e->observer)
         place++;
-    return printf("first observer concerned: 0x%02" PRIx64 ", number %d of %d\n", e->observer, place + 1, all.count) >= 0;
+    return printf("first observer concerned: 0x%02" PRIx64 ", number %d of %d", e->observer, place + 1, all.count) >= 0;
+}
+
+/* Prints a break of this record, with a word between what and for whom. False and errno where that fails. */
+static bool print_break(const struct hookup_explanation *e, const uint8_t *record, const char *between)
+{
+    return print_steps(e, has_kind(record, HOOKUP_LIMITED)) && fputs(between, stdout) != EOF && print_concerned(e, observers_of(record));
 }
 
 /* Prints how many states were taken up; of several observers also for which: that of the break, or the first where the part passes. False
@@ -397,10 +417,9 @@ static bool print_taken(const struct hookup_explanation *e, struct observers all
 /* Prints what hookup_explain wrote for a record. False and errno where that fails. */
 static bool print_explanation(const struct hookup_explanation *e, const uint8_t *record)
 {
-    struct observers all = observers_of(record);
-    if (e->rule != 0 && !(print_break(e, has_kind(record, HOOKUP_LIMITED)) && print_concerned(e, all)))
+    if (e->rule != 0 && !(print_break(e, record, "\n") && putchar('\n') != EOF))
         return false;
-    return print_taken(e, all);
+    return print_taken(e, observers_of(record));
 }
 
 /* Prints what check prints and, where the record is not refused, the explanation. */
@@ -502,6 +521,215 @@ static int join_files(const char *first, const char *second, const char *out)
     return status;
 }
 
+/* The bytes of the call at a place of a script; 0 where no whole call stands there. */
+static size_t call_size(struct bytes script, size_t at)
+{
+    static const size_t sizes[] = {
+        [HOOKUP_CLEAR_CALL] = HOOKUP_CLEAR_BYTES, [HOOKUP_LOAD_CALL] = HOOKUP_LOAD_BYTES, [HOOKUP_HOOKUP_CALL] = HOOKUP_HOOKUP_BYTES};
+    const uint8_t *call = script.at + at;
+    size_t left = script.len - at;
+    if (left == 0 || call[0] >= sizeof sizes / sizeof sizes[0] || left < sizes[call[0]])
+        return 0;
+    size_t size = sizes[call[0]] + (call[0] == HOOKUP_LOAD_CALL ? (size_t)number_at(call + 1) : 0);
+    return size <= left ? size : 0;
+}
+
+/* A script with its calls: how many whole ones it begins with, the place behind them, which is its end unless it is malformed, and room for
+ * their answers. The holder frees its bytes and the answers. */
+struct script {
+    struct bytes bytes;
+    size_t count;
+    size_t end;
+    struct hookup_answer *answers;
+};
+
+/* Reads a script from a file, or says why not. */
+static bool read_script(const char *path, struct script *into)
+{
+    size_t size;
+    if (!read_file(path, &into->bytes))
+        return false;
+    for (; (size = call_size(into->bytes, into->end)) != 0; into->end += size)
+        into->count++;
+    into->answers = calloc(into->count + 1, sizeof *into->answers); /* a null pointer always is a failure */
+    if (into->answers == NULL)
+        complain(path, strerror(errno));
+    return into->answers != NULL;
+}
+
+/* Prints the break of a rule that a call answers with, and the record. False and errno where that fails. */
+static bool print_broken(const struct hookup_answer *told, const uint8_t *record)
+{
+    struct hookup_explanation e = {
+        .rule = told->number, .event = told->event, .s = told->s, .t = told->t, .u = told->u, .observer = told->observer};
+    return print_answer(HOOKUP_BREAK + (uint32_t)e.rule, "", record) && fputs("; ", stdout) != EOF && print_break(&e, record, "; ");
+}
+
+/* Prints what the call answers. False and errno where that fails. */
+static bool print_told(const struct hookup_answer *told, const uint8_t *call)
+{
+    const uint8_t *record = call[0] == HOOKUP_LOAD_CALL ? call + HOOKUP_LOAD_BYTES : NULL;
+    switch (told->tag) {
+    case HOOKUP_GIVES:
+        return call[0] == HOOKUP_CLEAR_CALL ? printf("cleared") >= 0 : printf("part %" PRIu64, told->number) >= 0;
+    case HOOKUP_CLASHES:
+        return print_answer(HOOKUP_CLASH, "", record) && printf(": event %" PRIu64, told->number) >= 0;
+    case HOOKUP_BREAKS:
+        return print_broken(told, record);
+    default:
+        return print_answer((uint32_t)told->number, "", record);
+    }
+}
+
+/* Prints the number of a call, counted from 0, and which it is. False and errno where that fails. */
+static bool print_call(size_t k, const uint8_t *call)
+{
+    if (call[0] == HOOKUP_HOOKUP_CALL)
+        return printf("call %zu, hookup %" PRIu32 " %" PRIu32 ": ", k, number_at(call + 1), number_at(call + 5)) >= 0;
+    return printf("call %zu, %s: ", k, call[0] == HOOKUP_CLEAR_CALL ? "clear" : "load") >= 0;
+}
+
+static int worse(int status, int other)
+{
+    return status > other ? status : other;
+}
+
+/* Prints a line for each call of a script that was run. */
+static int print_answers(const struct script *script)
+{
+    int status = DONE;
+    size_t at = 0;
+    for (size_t k = 0; status != TROUBLE && k < script->count; k++) {
+        const uint8_t *call = script->bytes.at + at;
+        const struct hookup_answer *told = &script->answers[k];
+        bool printed = print_call(k, call) && print_told(told, call) && putchar('\n') != EOF;
+        status = worse(status, after_printing(printed, told->tag == HOOKUP_GIVES ? DONE : REFUSED));
+        at += call_size(script->bytes, at);
+    }
+    return status;
+}
+
+/* Finds the record of a part where it stands on the shelf. */
+static uint32_t find_part(struct bytes shelf, size_t i, struct bytes *record)
+{
+    struct hookup_place found = {0, 0};
+    uint32_t answer = hookup_part(shelf.at, shelf.len, i, (uint8_t *)&found, sizeof found);
+    if (answer == HOOKUP_FOUND)
+        *record = (struct bytes){shelf.at + found.place, found.length};
+    return answer;
+}
+
+/* Prints where a part's record stands on the shelf, and what follows. False and errno where that fails. */
+static bool print_place(struct bytes shelf, size_t i, struct bytes record, const char *behind)
+{
+    return printf("part %zu, %zu bytes at byte %td%s", i, record.len, record.at - shelf.at, behind) >= 0;
+}
+
+/* Prints where a part's record stands, and the verdict on it. */
+static int print_part(struct bytes shelf, size_t i)
+{
+    struct bytes record;
+    uint32_t answer = find_part(shelf, i, &record);
+    if (answer != HOOKUP_FOUND)
+        return print_refusal(answer, "", NULL);
+    return print_place(shelf, i, record, ": ") ? check_record(record) : after_printing(false, TROUBLE);
+}
+
+/* Prints how many parts are on a shelf, and a line for each. Each is found from the start of the shelf, so that very many take long. */
+static int print_parts(struct bytes shelf)
+{
+    uint64_t count = 0;
+    uint32_t answer = hookup_count(shelf.at, shelf.len, (uint8_t *)&count, sizeof count);
+    if (answer != HOOKUP_COUNTED)
+        return print_refusal(answer, "", NULL);
+    int status = after_printing(printf("parts: %" PRIu64 "\n", count) >= 0, DONE);
+    for (size_t i = 0; status != TROUBLE && i < count; i++)
+        status = worse(status, print_part(shelf, i));
+    return status;
+}
+
+/* Whether one of the calls is done; otherwise the shelf is as it was. */
+static bool any_done(const struct script *script)
+{
+    for (size_t k = 0; k < script->count; k++)
+        if (script->answers[k].tag == HOOKUP_GIVES)
+            return true;
+    return false;
+}
+
+/* Prints that a script is malformed, and where. */
+static int print_malformed(uint32_t answer, size_t place)
+{
+    return after_printing(print_answer(answer, "", NULL) && printf(": no whole call begins at byte %zu\n", place) >= 0, REFUSED);
+}
+
+/* Makes the calls of a script on a shelf. Where the shelf has a file and a call is done, writes it there; then prints answers and parts. */
+static int run_script(const struct script *script, struct bytes shelf, const char *path)
+{
+    size_t room = script->count * sizeof *script->answers;
+    uint32_t answer = hookup_run(script->bytes.at, script->bytes.len, shelf.at, shelf.len, (uint8_t *)script->answers, room);
+    if (answer == HOOKUP_MALFORMED)
+        return print_malformed(answer, script->end);
+    if (answer != HOOKUP_RAN)
+        return print_refusal(answer, "", NULL);
+    if (path != NULL && any_done(script) && !(may_replace(path) && replace_file(path, shelf.at, shelf.len)))
+        return TROUBLE;
+    int status = print_answers(script);
+    return status == TROUBLE ? status : worse(status, print_parts(shelf));
+}
+
+/* Makes a shelf that is in no file, or says why not: bytes without an end record, so that the first call on it has to be Clear. */
+static bool make_shelf(struct bytes *into)
+{
+    into->len = SHELF_SIZE;
+    into->at = malloc(into->len);
+    if (into->at == NULL)
+        complain("shelf", strerror(errno));
+    else
+        memset(into->at, 0xAA, into->len);
+    return into->at != NULL;
+}
+
+/* Runs a script on the shelf in a file, or on one of its own where the name is null. */
+static int use_shelf(const char *script_path, const char *path)
+{
+    struct script script = {{NULL, 0}, 0, 0, NULL};
+    struct bytes shelf = {NULL, 0};
+    int status = TROUBLE;
+    if (read_script(script_path, &script) && (path == NULL ? make_shelf(&shelf) : read_file(path, &shelf)))
+        status = run_script(&script, shelf, path);
+    free(script.bytes.at);
+    free(script.answers);
+    free(shelf.at);
+    return status;
+}
+
+/* Writes the record of a part on a shelf to a file, which is touched only where that succeeds. */
+static int write_part(struct bytes shelf, size_t i, const char *out)
+{
+    struct bytes record;
+    uint32_t answer = find_part(shelf, i, &record);
+    if (answer != HOOKUP_FOUND)
+        return print_refusal(answer, "", NULL);
+    if (!(may_replace(out) && replace_file(out, record.at, record.len)))
+        return TROUBLE;
+    return after_printing(printf("%" PRIu32 ": ", answer) >= 0 && print_place(shelf, i, record, "\n"), DONE);
+}
+
+static int save_part(const char *path, size_t i, const char *out)
+{
+    struct bytes shelf = {NULL, 0};
+    int status = read_file(path, &shelf) ? write_part(shelf, i, out) : TROUBLE;
+    free(shelf.at);
+    return status;
+}
+
+/* Whether a text is a number in decimal digits. */
+static bool is_number(const char *text)
+{
+    return text[0] != '\0' && text[strspn(text, "0123456789")] == '\0';
+}
+
 int main(int count, char **arguments)
 {
     if (count == 3 && strcmp(arguments[1], "check") == 0)
@@ -512,7 +740,11 @@ int main(int count, char **arguments)
         return with_file(arguments[2], print_closures);
     if (count == 3 && strcmp(arguments[1], "explain") == 0)
         return with_file(arguments[2], explain_record);
-    fputs("usage: hookup-host check FILE\n       hookup-host explain FILE\n       hookup-host join A B OUT\n       hookup-host closure FILE\n",
-          stderr);
+    if ((count == 3 || count == 4) && strcmp(arguments[1], "shelf") == 0)
+        return use_shelf(arguments[2], count == 4 ? arguments[3] : NULL);
+    if (count == 5 && strcmp(arguments[1], "part") == 0 && is_number(arguments[3]))
+        return save_part(arguments[2], strtoul(arguments[3], NULL, 10), arguments[4]);
+    fputs("usage: hookup-host check FILE\n       hookup-host explain FILE\n       hookup-host join A B OUT\n       hookup-host closure FILE\n"
+          "       hookup-host shelf SCRIPT [SHELF]\n       hookup-host part SHELF NUMBER OUT\n", stderr);
     return TROUBLE;
 }
