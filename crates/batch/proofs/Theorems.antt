@@ -1,11 +1,10 @@
 -- Demand 3 about runs.
-use Prim.Native.Nat.{ℕ, suc, _+_, _*_, _≤_, _<_}
+use Prim.Native.Nat.{ℕ, suc, _+_, _≤_, _<_}
 use mathlib.Core.Path.{_≡_, refl, sym, ap, _∙_}
 use mathlib.Core.Bool.{Bool, true, false, cond}
 use mathlib.Core.List.{List, [], _∷_, _++_}
 use mathlib.Core.Option.{Option, none, some}
 use native.Mathlib.Omega.{arith}
-use lib.Dec.{ltb}
 use lib.ListN.{length, take, drop, length-drop}
 use lib.Seq.{length-take-le, getD-take, getD-drop, take-append-seam, drop-append-seam}
 use Rattle.words.specs.LittleEndian.{Bytes}
@@ -22,7 +21,7 @@ use Rattle.store.specs.Demand.{step, shelf-after, shelf-answers, BytesLoaded}
 use Rattle.store.proofs.Theorems.{demand3}
 use Rattle.batch.specs.Script.{call-of, calls}
 use Rattle.batch.specs.Slots.{slots}
-use Rattle.batch.specs.Running.{Left, run-calls, run}
+use Rattle.batch.specs.Running.{Left, short-for, run-calls, run}
 use Rattle.batch.specs.Runs.{Run, left, made, all-made, shelf-after-runs, buffers-after, dealt, BytesRun}
 use Rattle.batch.specs.Theorems.{RunsDemand3}
 use Rattle.batch.proofs.Calls.{calls-some-left, calls-first}
@@ -78,7 +77,7 @@ loaded-made r b = go (calls (r .script)) refl
     go : (o : Option (List Call)) → calls (r .script) ≡ o → BytesLoaded (made r)
     go none q = rw (q, made) tt
     go (some cs) q =
-        rw (q, made) (unless (ltb (length (r .out)) (length cs * 64)) cs (loaded cs (r .script) b q))
+        rw (q, made) (unless (short-for cs (r .out)) cs (loaded cs (r .script) b q))
 
 loaded-all : (rs : List Run) → BytesRun rs → BytesLoaded (all-made rs)
 unfolding all-made
@@ -116,14 +115,14 @@ run-made r s = go (calls (r .script)) refl
     Makes : Left → List Call → Type 0
     Makes l cs = (l .shelf ≡ shelf-after cs s) × (l .answers ≡ over (r .out) 0 (slots (shelf-answers cs s)))
 
-    fits : (cs : List Call) (x : Bool) → ltb (length (r .out)) (length cs * 64) ≡ x
+    fits : (cs : List Call) (x : Bool) → short-for cs (r .out) ≡ x
         → Makes (run-calls cs s (r .out)) (cond x [] cs)
     fits cs true q = rw (q, run-calls) (refl, sym (over-nothing (r .out) 0))
     fits cs false q = rw (q, run-calls) (refl, refl)
 
     go : (o : Option (List Call)) → calls (r .script) ≡ o → Makes (left r s) (made r)
     go none q = rw (q, run, made) (refl, sym (over-nothing (r .out) 0))
-    go (some cs) q = rw (q, run, made) (fits cs (ltb (length (r .out)) (length cs * 64)) refl)
+    go (some cs) q = rw (q, run, made) (fits cs (short-for cs (r .out)) refl)
 
 runs-shelf : (rs : List Run) (s : List ℕ) → shelf-after-runs rs s ≡ shelf-after (all-made rs) s
 unfolding shelf-after-runs all-made shelf-after

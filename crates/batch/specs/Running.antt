@@ -1,6 +1,6 @@
 -- A whole list of calls run at once: its outcome, the shelf and the answers afterwards.
 use Prim.Native.Nat.{ℕ, _*_}
-use mathlib.Core.Bool.{cond}
+use mathlib.Core.Bool.{Bool, cond}
 use mathlib.Core.List.{List}
 use mathlib.Core.Option.{none, some}
 use lib.Dec.{ltb}
@@ -22,10 +22,14 @@ pub record Left : Type 0 where
   pub shelf : List ℕ
   pub answers : List ℕ
 
--- 64 bytes for each answer.
+-- The bytes for the answers are too few: 64 for each call.
+abbrev pub short-for : List Call → List ℕ → Bool
+short-for cs out = ltb (length out) (length cs * 64)
+
+-- Some calls, run.
 unfoldable pub run-calls : List Call → List ℕ → List ℕ → Left
 run-calls cs s out =
-    cond (ltb (length out) (length cs * 64)) (record { outcome = too-few; shelf = s; answers = out })
+    cond (short-for cs out) (record { outcome = too-few; shelf = s; answers = out })
     (record { outcome = ran (length cs); shelf = shelf-after cs s; answers = over out 0 (slots (shelf-answers cs s)) })
 
 -- The calls of a script, run; a malformed script leaves both buffers as they were.

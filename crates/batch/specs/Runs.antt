@@ -1,9 +1,8 @@
 -- A host's runs on one shelf: scripts that are run one behind the other, each with a buffer for its answers.
-use Prim.Native.Nat.{ℕ, _*_}
+use Prim.Native.Nat.{ℕ}
 use mathlib.Core.Bool.{cond}
 use mathlib.Core.List.{List, [], _∷_, _++_}
 use mathlib.Core.Option.{none, some}
-use lib.Dec.{ltb}
 use lib.ListN.{length, take, drop}
 use Rattle.words.specs.LittleEndian.{Bytes}
 use Rattle.words.specs.Laid.{over}
@@ -11,7 +10,7 @@ use Rattle.store.specs.Answer.{Answer}
 use Rattle.store.specs.Model.{Call}
 use Rattle.batch.specs.Script.{calls}
 use Rattle.batch.specs.Slots.{slots}
-use Rattle.batch.specs.Running.{Left, run}
+use Rattle.batch.specs.Running.{Left, short-for, run}
 
 -- A script, and the buffer that is lent for its answers.
 pub record Run : Type 0 where
@@ -24,7 +23,7 @@ left r s = run (r .script) s (r .out)
 
 -- The calls that it makes: those of its script, or none where it is refused.
 unfoldable pub made : Run → List Call
-made r = elim (calls (r .script)) [ none ↦ [] | some cs ↦ cond (ltb (length (r .out)) (length cs * 64)) [] cs ]
+made r = elim (calls (r .script)) [ none ↦ [] | some cs ↦ cond (short-for cs (r .out)) [] cs ]
 
 unfoldable pub all-made : List Run → List Call
 all-made [] = []

@@ -1,4 +1,4 @@
--- The one number that a call from C answers with (document 01, "The shelf"; requests c and f; the shelf from C).
+-- The one number that a call from C answers with (document 01, "The shelf"; requests c and f).
 use Prim.Native.Nat.{ℕ, _+_}
 use mathlib.Core.Option.{Option, none, some}
 use Rattle.restrictive.specs.Verdict.{Verdict, pass, refused, breaks}
@@ -31,7 +31,8 @@ unfoldable pub refusal-number : Option ℕ → ℕ
 refusal-number none = 0
 refusal-number (some k) = k
 
--- 0 for a run, however its calls were answered; 99 for a malformed script, 15 for too few bytes for the answers.
+-- 0 for a run, however its calls were answered; 99, which is no refusal of the documents, for a malformed script; 15 for too few bytes for
+-- the answers.
 unfoldable pub run-number : Outcome → ℕ
 run-number (ran n) = 0
 run-number malformed = 99
