@@ -1,5 +1,7 @@
 //! Compares the unverified versions with the proved library: answers and output bytes.
 
+pub mod shelves;
+
 use crate::closure::PIECE;
 use crate::dice::Dice;
 use crate::inputs::{span, Event, Inputs, Table, HIGH, INPUT, LOW};
@@ -23,6 +25,13 @@ pub struct Score {
     pub explanations: BTreeMap<u32, usize>,
     pub joins: BTreeMap<u32, usize>,
     pub closures: BTreeMap<u32, usize>,
+    pub runs: BTreeMap<u32, usize>,
+    /// Of the calls in runs, a clash as 10, a break as 100 and the rule.
+    pub clears: BTreeMap<u32, usize>,
+    pub loads: BTreeMap<u32, usize>,
+    pub hookups: BTreeMap<u32, usize>,
+    pub counts: BTreeMap<u32, usize>,
+    pub parts: BTreeMap<u32, usize>,
     pub mislabelled: BTreeMap<String, usize>,
     pub spoilt: BTreeMap<String, usize>,
     pub differences: usize,
@@ -80,20 +89,28 @@ impl Score {
 
     /// A call that is lent so many bytes: the answers, and every byte of a longer buffer.
     fn output(&mut self, what: &str, room: usize, call: impl Fn(&Version, &mut [u8]) -> u32) -> u32 {
-        let mut wanted = self.before.clone();
+        let before = std::mem::take(&mut self.before);
+        let (answer, _) = self.bytes(what, &before, |version, bytes| call(version, &mut bytes[..room]));
+        self.before = before;
+        answer
+    }
+
+    /// A call that may change these bytes: the answers, and every byte behind it. Gives what the first version gives.
+    fn bytes(&mut self, what: &str, before: &[u8], call: impl Fn(&Version, &mut [u8]) -> u32) -> (u32, Vec<u8>) {
+        let mut wanted = before.to_vec();
         let first = &self.versions[0];
-        let answer = call(first, &mut wanted[..room]);
+        let answer = call(first, &mut wanted);
         for version in &self.versions[1..] {
-            let mut bytes = self.before.clone();
-            let other = call(version, &mut bytes[..room]);
+            let mut bytes = before.to_vec();
+            let other = call(version, &mut bytes);
             if other != answer {
                 self.fault(format!("{what}: {} {answer}, {} {other}", first.name, version.name));
             } else if bytes != wanted {
-                let place = (0..ROOM).find(|&i| bytes[i] != wanted[i]).unwrap();
+                let place = (0..wanted.len()).find(|&i| bytes[i] != wanted[i]).unwrap();
                 self.fault(format!("{what}: byte {place} is {}, in {} {}", wanted[place], version.name, bytes[place]));
             }
         }
-        answer
+        (answer, wanted)
     }
 
     /// The timed inputs: also against the answers they are made for. Those of Check are explained too.
@@ -114,6 +131,7 @@ impl Score {
             let answer = self.closure(&one.name(), &one.record, ROOM);
             self.made_for(&one.name(), one.answer, answer);
         }
+        self.timed_shelves(inputs);
     }
 
     fn made_for(&mut self, name: &str, wanted: u32, answer: u32) {

@@ -1,6 +1,9 @@
-//! The records that are timed.
+//! The records that are timed, and the scripts and shelves.
+
+pub mod scripts;
 
 use crate::dice::Dice;
+use scripts::{Run, Stock};
 use std::ops::Range;
 
 pub const LOW: u8 = 0x00;
@@ -463,10 +466,15 @@ fn tinies() -> [Table; 3] {
 
 /// The tiny records with a fine class for each state.
 fn limited_tinies() -> [Table; 3] {
-    tinies().map(|table| {
-        let fine = own(table.n());
-        table.limited(fine)
-    })
+    tinies().map(split)
+}
+
+/// A limited part with the same steps: fours with the pairs as fine classes, or in a tiny part a fine class for each state.
+fn split(table: Table) -> Table {
+    match table.n() {
+        n @ 1..=2 => table.limited(own(n)),
+        n => Table { classes: fours(n), ..table }.limited(pairs(n)),
+    }
 }
 
 /// All that is timed.
@@ -475,6 +483,9 @@ pub struct Inputs {
     pub explanations: Vec<One>,
     pub joins: Vec<Pair>,
     pub closures: Vec<One>,
+    pub runs: Vec<Run>,
+    pub counts: Vec<Stock>,
+    pub parts: Vec<Stock>,
 }
 
 impl Inputs {
@@ -486,6 +497,9 @@ impl Inputs {
             explanations: sized("explain tiny", tinies(), EXPLANATIONS, &ends(ns), &ends(ms)),
             joins: joins(),
             closures: sized("closure tiny", tinies(), CLOSURES, ns, ms),
+            runs: scripts::runs(),
+            counts: scripts::counts(),
+            parts: scripts::parts(),
         };
         inputs.checks.extend(listed(["two tiny", "four tiny"], LISTS, ns, ms));
         inputs.explanations.extend(listed(["explain two tiny", "explain four tiny"], EXPLANATIONS_OF_LISTS, ns, ms));
@@ -499,6 +513,10 @@ impl Inputs {
             ones.retain(|one| one.name().contains(text));
         }
         inputs.joins.retain(|pair| pair.name.contains(text));
+        inputs.runs.retain(|run| run.name.contains(text));
+        for stocks in [&mut inputs.counts, &mut inputs.parts] {
+            stocks.retain(|stock| stock.name.contains(text));
+        }
         inputs
     }
 }
@@ -586,11 +604,7 @@ fn joins_of_lists() -> Vec<Pair> {
 
 /// Joins of limited parts with each other and with parts of kind 1; and with a list, which 9 refuses.
 fn joins_of_limited() -> Vec<Pair> {
-    let made = |limited: bool, table: Table| match table.n() {
-        _ if !limited => table,
-        1 => table.limited(single(1)),
-        n => Table { classes: fours(n), ..table }.limited(pairs(n)),
-    };
+    let made = |limited: bool, table: Table| if limited { split(table) } else { table };
     let mut list = Vec::new();
     for (name, x, y) in [("limited", true, true), ("limited x one", true, false), ("one x limited", false, true)] {
         list.push(pair(&format!("{name}, tiny x tiny"), 0, &made(x, tiny1()), &made(y, tiny1())));

@@ -6,11 +6,13 @@ mod dice;
 mod fast;
 mod inputs;
 mod proved;
+mod shelf;
 #[cfg(test)]
 mod tests;
 mod timing;
 
 use agree::Score;
+use inputs::scripts::{Run, Stock};
 use inputs::{Inputs, One, Pair};
 use std::collections::BTreeMap;
 use std::fmt::Display;
@@ -66,16 +68,48 @@ pub struct Version {
     pub explain: Writer,
     pub join: fn(&[u8], &[u8], &mut [u8]) -> u32,
     pub closure: Writer,
+    /// Of a script, a shelf and a buffer.
+    pub run: fn(&[u8], &mut [u8], &mut [u8]) -> u32,
+    pub count: Writer,
+    /// Of a shelf, a number and a buffer.
+    pub part: fn(&[u8], usize, &mut [u8]) -> u32,
 }
 
-/// A call on a record that writes to a buffer.
+/// A call on a record or a shelf that writes to a buffer.
 pub type Writer = fn(&[u8], &mut [u8]) -> u32;
 
 /// The proved library first.
 pub static VERSIONS: [Version; 3] = [
-    Version { name: "library", check: proved::check, explain: proved::explain, join: proved::join, closure: proved::closure },
-    Version { name: "plain", check: fast::check_plain, explain: fast::explain_plain, join: fast::join_plain, closure: fast::closure_plain },
-    Version { name: "sharp", check: fast::check_sharp, explain: fast::explain_sharp, join: fast::join_sharp, closure: fast::closure_sharp },
+    Version {
+        name: "library",
+        check: proved::check,
+        explain: proved::explain,
+        join: proved::join,
+        closure: proved::closure,
+        run: proved::run,
+        count: proved::count,
+        part: proved::part,
+    },
+    Version {
+        name: "plain",
+        check: fast::check_plain,
+        explain: fast::explain_plain,
+        join: fast::join_plain,
+        closure: fast::closure_plain,
+        run: shelf::run_plain,
+        count: shelf::count,
+        part: shelf::part_plain,
+    },
+    Version {
+        name: "sharp",
+        check: fast::check_sharp,
+        explain: fast::explain_sharp,
+        join: fast::join_sharp,
+        closure: fast::closure_sharp,
+        run: shelf::run_sharp,
+        count: shelf::count,
+        part: shelf::part_sharp,
+    },
 ];
 
 /// The longest output, the closures of four observers, has so many bytes.
@@ -106,13 +140,24 @@ fn main() {
     let explanations = time_writer(plan, "explain", &inputs.explanations, |version| version.explain);
     let joins = time_joins(plan, &inputs.joins);
     let closures = time_writer(plan, "closure", &inputs.closures, |version| version.closure);
+    let runs = time_runs(plan, &inputs.runs);
+    let counts = time_stocks(plan, "count", &inputs.counts, |version, stock| writer_job(version.count, &stock.shelf));
+    let parts = time_stocks(plan, "part", &inputs.parts, part_job);
     if flags.only.is_empty() {
         growth(checks.iter().chain(&closures).filter(|line| line.alone.is_none()), ns, ms);
     }
     if let Some(program) = &flags.verdict {
         end_to_end(program, &inputs.checks, if flags.quick { 50 } else { 300 });
     }
-    let calls = [("check", checks), ("explain", explanations), ("join", joins), ("closure", closures)];
+    let calls = [
+        ("check", checks),
+        ("explain", explanations),
+        ("join", joins),
+        ("closure", closures),
+        ("run", runs),
+        ("count", counts),
+        ("part", parts),
+    ];
     by_family(&calls);
     by_observer(&calls);
     sum_up(&calls);
@@ -145,10 +190,21 @@ fn compare(inputs: &Inputs, rounds: usize) {
     score.timed(inputs);
     for kind in 1..=3 {
         score.random(kind as u64, rounds, kind);
+        score.random_shelves(kind as u64, rounds, kind);
     }
     println!("Compared with the library, as answer:times");
-    let answers =
-        [("checks", &score.checks), ("explanations", &score.explanations), ("joins", &score.joins), ("closures", &score.closures)];
+    let answers = [
+        ("checks", &score.checks),
+        ("explanations", &score.explanations),
+        ("joins", &score.joins),
+        ("closures", &score.closures),
+        ("runs", &score.runs),
+        ("clears in runs", &score.clears),
+        ("loads in runs", &score.loads),
+        ("hookups in runs", &score.hookups),
+        ("counts", &score.counts),
+        ("parts", &score.parts),
+    ];
     for (calls, counts) in answers {
         show_counts(calls, counts, " ");
     }
@@ -179,6 +235,15 @@ fn spin(inputs: &Inputs, calls: usize) {
     }
     for one in &inputs.closures {
         repeat_writer(library.closure, &one.record, &mut out, calls);
+    }
+    for run in &inputs.runs {
+        run_job(library, run)(calls);
+    }
+    for stock in &inputs.counts {
+        repeat_writer(library.count, &stock.shelf, &mut out, calls);
+    }
+    for stock in &inputs.parts {
+        part_job(library, stock)(calls);
     }
 }
 
@@ -215,6 +280,25 @@ fn join_job<'a>(version: &'static Version, (a, b): (&'a [u8], &'a [u8])) -> Job<
 fn writer_job(writer: Writer, record: &[u8]) -> Job<'_> {
     let mut out = vec![0; LONGEST];
     Box::new(move |calls| repeat_writer(writer, record, &mut out, calls))
+}
+
+/// Each run clears the shelf or leaves it as it is.
+fn run_job<'a>(version: &'static Version, run: &'a Run) -> Job<'a> {
+    let (mut shelf, mut answers) = (run.shelf.clone(), vec![0; run.room]);
+    Box::new(move |calls| {
+        for _ in 0..calls {
+            black_box((version.run)(black_box(&run.script), black_box(&mut shelf), black_box(&mut answers)));
+        }
+    })
+}
+
+fn part_job<'a>(version: &'static Version, stock: &'a Stock) -> Job<'a> {
+    let mut out = [0; 16];
+    Box::new(move |calls| {
+        for _ in 0..calls {
+            black_box((version.part)(black_box(&stock.shelf), black_box(stock.i), black_box(&mut out)));
+        }
+    })
 }
 
 /// One job after the other.
@@ -264,6 +348,28 @@ fn time_joins(plan: Plan, pairs: &[Pair]) -> Vec<Line> {
         line
     };
     pairs.iter().map(time_pair).collect()
+}
+
+fn time_runs(plan: Plan, runs: &[Run]) -> Vec<Line> {
+    heading("run");
+    let time_run = |run: &Run| {
+        let (times, alone) = time(plan, run, &[], run_job);
+        let line = Line { name: run.name.clone(), family: run.family, n: run.n, m: 0, times, alone };
+        show(&line, &run.answer.to_string());
+        line
+    };
+    runs.iter().map(time_run).collect()
+}
+
+fn time_stocks<'a>(plan: Plan, call: &'static str, stocks: &'a [Stock], job: fn(&'static Version, &'a Stock) -> Job<'a>) -> Vec<Line> {
+    heading(call);
+    let time_stock = |stock: &'a Stock| {
+        let (times, alone) = time(plan, stock, &[], job);
+        let line = Line { name: stock.name.clone(), family: call, n: 2, m: 0, times, alone };
+        show(&line, &stock.answer.to_string());
+        line
+    };
+    stocks.iter().map(time_stock).collect()
 }
 
 fn heading(title: &str) {

@@ -1,4 +1,4 @@
-//! The proved library's four C entries.
+//! The proved library's seven C entries.
 
 // Code before the library's, to move it: where its loops lie in the cache lines changes their speed.
 std::arch::global_asm!(
@@ -16,6 +16,9 @@ extern "C" {
     fn hookup_join(a: *const u8, alen: usize, b: *const u8, blen: usize, out: *mut u8, outlen: usize) -> u32;
     fn hookup_closure(record: *const u8, len: usize, out: *mut u8, outlen: usize) -> u32;
     fn hookup_explain(record: *const u8, len: usize, out: *mut u8, outlen: usize) -> u32;
+    fn hookup_run(script: *const u8, len: usize, shelf: *mut u8, shelflen: usize, answers: *mut u8, answerslen: usize) -> u32;
+    fn hookup_count(shelf: *const u8, len: usize, out: *mut u8, outlen: usize) -> u32;
+    fn hookup_part(shelf: *const u8, len: usize, i: usize, out: *mut u8, outlen: usize) -> u32;
 }
 
 /// Where the library's code begins within a cache line.
@@ -42,4 +45,19 @@ pub fn closure(record: &[u8], out: &mut [u8]) -> u32 {
 pub fn explain(record: &[u8], out: &mut [u8]) -> u32 {
     // SAFETY: as for the closure.
     unsafe { hookup_explain(record.as_ptr(), record.len(), out.as_mut_ptr(), out.len()) }
+}
+
+pub fn run(script: &[u8], shelf: &mut [u8], answers: &mut [u8]) -> u32 {
+    // SAFETY: the script is readable, shelf and answers are writable and, being mutable borrows, overlap nothing.
+    unsafe { hookup_run(script.as_ptr(), script.len(), shelf.as_mut_ptr(), shelf.len(), answers.as_mut_ptr(), answers.len()) }
+}
+
+pub fn count(shelf: &[u8], out: &mut [u8]) -> u32 {
+    // SAFETY: as for the closure.
+    unsafe { hookup_count(shelf.as_ptr(), shelf.len(), out.as_mut_ptr(), out.len()) }
+}
+
+pub fn part(shelf: &[u8], i: usize, out: &mut [u8]) -> u32 {
+    // SAFETY: as for the closure.
+    unsafe { hookup_part(shelf.as_ptr(), shelf.len(), i, out.as_mut_ptr(), out.len()) }
 }

@@ -1,6 +1,8 @@
 //! Records with several observers and limited parts: all versions against answers worked out by hand, and against the library's answers for each
 //! observer alone and for parts without fine classes.
 
+mod shelves;
+
 use crate::agree::{couple, largest, one_state, Score};
 use crate::closure::PIECE;
 use crate::dice::Dice;
@@ -11,7 +13,7 @@ use crate::{Version, VERSIONS};
 const TOP: u8 = 0x81;
 
 /// The answer, and the buffer that had 7s before.
-fn output(room: usize, call: impl Fn(&mut [u8]) -> u32) -> (u32, Vec<u8>) {
+fn output(room: usize, mut call: impl FnMut(&mut [u8]) -> u32) -> (u32, Vec<u8>) {
     let mut out = vec![7; 40_000];
     let answer = call(&mut out[..room]);
     (answer, out)
