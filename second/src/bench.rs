@@ -141,11 +141,7 @@ mod tests {
             let mut bytes = rng.bytes(capacity);
             let mut answers = vec![shelf::clear(&mut bytes)];
             for call in &calls {
-                answers.push(match call {
-                    Call::Clear => shelf::clear(&mut bytes),
-                    Call::Load(record) => shelf::load(&mut bytes, record),
-                    Call::Hookup(i, j) => shelf::hookup(&mut bytes, *i, *j),
-                });
+                answers.push(shelf::call(&mut bytes, call));
             }
             let (bench, expected) = run(capacity, &calls);
             assert_eq!(answers, expected);

@@ -1,6 +1,7 @@
 //! Categories of scripts for `replay` and of their operations, by the checker's own answers.
 
 use crate::answer::Answer;
+use crate::bench::Call;
 use crate::category;
 use crate::category_join::{self, clashes};
 use crate::category_kind_replay as kind;
@@ -10,7 +11,8 @@ use crate::check::{self, Verdict};
 use crate::examples;
 use crate::join;
 use crate::record::{self, Part};
-use crate::replay::{self, Done, Effect, Ending, Operation, Replay};
+use crate::replay::{self, Done, Effect, Ending, Replay};
+use crate::script::{next_operation, Next, Operation};
 use crate::wrong_internal::as_outputs;
 
 /// Is this a category that must come up most often?
@@ -142,8 +144,8 @@ pub fn of_replay(script: &[u8], run: &Replay) -> Vec<String> {
 fn truncated_name(script: &[u8], run: &Replay) -> String {
     let mut at = 4;
     for _ in 0..run.done.len() {
-        match replay::next_operation(script, at) {
-            replay::Next::Operation(_, behind) => at = behind,
+        match next_operation(script, at) {
+            Next::Operation(_, behind) => at = behind,
             _ => unreachable!(),
         }
     }
@@ -161,8 +163,8 @@ fn small_shelf_name(run: &Replay) -> Option<String> {
     let mut first_load = None;
     for done in &run.done {
         match (&done.operation, &done.effect) {
-            (Operation::Clear, Effect::Answer(Answer::Cleared)) => cleared = true,
-            (Operation::Load(record), Effect::Answer(answer)) => {
+            (Operation::Call(Call::Clear), Effect::Answer(Answer::Cleared)) => cleared = true,
+            (Operation::Call(Call::Load(record)), Effect::Answer(answer)) => {
                 if (cleared || run.capacity < 6) && first_load.is_none() && *record == examples::z() {
                     first_load = Some(*answer);
                 }
@@ -203,7 +205,7 @@ fn operation_names(capacity: usize, held: &mut Vec<Held>, done: &Done) -> Vec<St
         None => 0,
     };
     match (&done.operation, &done.effect) {
-        (Operation::Clear, Effect::Answer(Answer::Cleared)) => {
+        (Operation::Call(Call::Clear), Effect::Answer(Answer::Cleared)) => {
             names.push("clear".to_string());
             if !held.is_empty() {
                 names.push("clear behind loads".to_string());
@@ -211,8 +213,8 @@ fn operation_names(capacity: usize, held: &mut Vec<Held>, done: &Done) -> Vec<St
             }
             held.clear();
         }
-        (Operation::Clear, _) => names.push("clear refused 12".to_string()),
-        (Operation::Load(record), Effect::Answer(answer)) => {
+        (Operation::Call(Call::Clear), _) => names.push("clear refused 12".to_string()),
+        (Operation::Call(Call::Load(record)), Effect::Answer(answer)) => {
             let verdict = verdict_of_load(*answer).unwrap_or_else(|| check::check(record));
             names.extend(kind::of_load(record, *answer, verdict, room, no_room));
             if *answer == Answer::Refused(12) {
@@ -253,8 +255,8 @@ fn operation_names(capacity: usize, held: &mut Vec<Held>, done: &Done) -> Vec<St
                 names.push(format!("load, {}", name));
             }
         }
-        (Operation::Hookup(i, j), Effect::Answer(answer)) => {
-            names.extend(hookup_names(held, *i as usize, *j as usize, *answer, room, no_room));
+        (Operation::Call(Call::Hookup(i, j)), Effect::Answer(answer)) => {
+            names.extend(hookup_names(held, *i, *j, *answer, room, no_room));
         }
         (Operation::Count, Effect::Count(Some(_))) => {
             names.push("count".to_string());

@@ -2,7 +2,7 @@
 //! Document 02, requests f, i, k and l, and the C header, `hookup_explain`.
 
 use crate::check::{self, found_by, quiet_reaches, told, Break, Verdict};
-use crate::record;
+use crate::record::{self, push_u64};
 
 /// The bytes of an explanation: eight numbers of eight bytes.
 pub const EXPLANATION: usize = 64;
@@ -101,9 +101,7 @@ fn explanation_bytes(explanation: Explanation) -> Vec<u8> {
     ];
     let mut bytes = Vec::new();
     for number in numbers {
-        for place in 0..8 {
-            bytes.push((number >> (8 * place)) as u8);
-        }
+        push_u64(&mut bytes, number);
     }
     bytes
 }

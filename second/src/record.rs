@@ -647,6 +647,11 @@ pub fn push_u32(bytes: &mut Vec<u8>, number: u32) {
     push_u16(bytes, (number / 65536) as u16);
 }
 
+pub fn push_u64(bytes: &mut Vec<u8>, number: u64) {
+    push_u32(bytes, (number % (1 << 32)) as u32);
+    push_u32(bytes, (number >> 32) as u32);
+}
+
 /// Writes the record of a part of at most 64 states. One observer makes it kind 1, several make it kind 2, and one with a
 /// fine column makes it kind 3.
 pub fn write(part: &Part) -> Vec<u8> {

@@ -1,10 +1,11 @@
 //! What the program `replay` prints for a script.
-//! The replay format (capacity, operations, lines), over the shelf calls of shelf.rs.
+//! The replay format (capacity, lines), over the operations of script.rs and the shelf calls of shelf.rs.
 
 use crate::answer::Answer;
-use crate::bench::Bench;
+use crate::bench::{Bench, Call};
 use crate::check::break_line;
 use crate::record::u32_at;
+use crate::script::{next_operation, Next, Operation};
 use crate::shelf;
 
 /// The longest script and the largest capacity.
@@ -12,61 +13,6 @@ pub const LIMIT: usize = 262_144;
 
 /// The byte that fills the shelf at first.
 pub const FILL: u8 = 0xAA;
-
-#[derive(Clone, PartialEq, Eq, Debug)]
-pub enum Operation {
-    Clear,
-    Load(Vec<u8>),
-    Hookup(u32, u32),
-    Count,
-    Part(u32),
-}
-
-/// What comes next in a script.
-#[derive(Clone, PartialEq, Eq, Debug)]
-pub enum Next {
-    Operation(Operation, usize),
-    End,
-    Truncated,
-    Unknown,
-}
-
-/// Reads the operation at an offset; with it comes the offset behind it.
-pub fn next_operation(script: &[u8], at: usize) -> Next {
-    if at == script.len() {
-        return Next::End;
-    }
-    let rest = script.len() - at - 1;
-    let argument = at + 1;
-    match script[at] {
-        0 => Next::Operation(Operation::Clear, argument),
-        1 => {
-            if rest < 4 {
-                return Next::Truncated;
-            }
-            let length = u32_at(script, argument) as usize;
-            if rest - 4 < length {
-                return Next::Truncated;
-            }
-            let from = argument + 4;
-            Next::Operation(Operation::Load(script[from..from + length].to_vec()), from + length)
-        }
-        2 => {
-            if rest < 8 {
-                return Next::Truncated;
-            }
-            Next::Operation(Operation::Hookup(u32_at(script, argument), u32_at(script, argument + 4)), argument + 8)
-        }
-        3 => Next::Operation(Operation::Count, argument),
-        4 => {
-            if rest < 4 {
-                return Next::Truncated;
-            }
-            Next::Operation(Operation::Part(u32_at(script, argument)), argument + 4)
-        }
-        _ => Next::Unknown,
-    }
-}
 
 pub fn hex(bytes: &[u8]) -> String {
     let digits: Vec<char> = "0123456789abcdef".chars().collect();
@@ -154,9 +100,7 @@ fn line_of(effect: &Effect) -> String {
 /// One operation on the shelf.
 fn perform(shelf: &mut [u8], operation: &Operation) -> Effect {
     match operation {
-        Operation::Clear => Effect::Answer(shelf::clear(shelf)),
-        Operation::Load(record) => Effect::Answer(shelf::load(shelf, record)),
-        Operation::Hookup(i, j) => Effect::Answer(shelf::hookup(shelf, *i as usize, *j as usize)),
+        Operation::Call(call) => Effect::Answer(shelf::call(shelf, call)),
         Operation::Count => Effect::Count(shelf::count(shelf)),
         Operation::Part(i) => Effect::Part(shelf::part(shelf, *i as usize).to_vec()),
     }
@@ -219,7 +163,7 @@ pub fn by_bench(capacity: usize, operations: &[Operation]) -> Option<(usize, Vec
     }
     let mut first_clear = None;
     for i in 0..operations.len() {
-        if operations[i] == Operation::Clear && first_clear.is_none() {
+        if operations[i] == Operation::Call(Call::Clear) && first_clear.is_none() {
             first_clear = Some(i);
         }
     }
@@ -228,9 +172,7 @@ pub fn by_bench(capacity: usize, operations: &[Operation]) -> Option<(usize, Vec
     let mut effects = Vec::new();
     for operation in &operations[first_clear..] {
         effects.push(match operation {
-            Operation::Clear => Effect::Answer(bench.clear()),
-            Operation::Load(record) => Effect::Answer(bench.load(record)),
-            Operation::Hookup(i, j) => Effect::Answer(bench.hookup(*i as usize, *j as usize)),
+            Operation::Call(call) => Effect::Answer(bench.call(call)),
             Operation::Count => Effect::Count(Some(bench.records.len())),
             Operation::Part(i) => {
                 if (*i as usize) < bench.records.len() {

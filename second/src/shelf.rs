@@ -2,6 +2,7 @@
 //! Document 01, "The shelf", "Refusals out of the state", "Order".
 
 use crate::answer::Answer;
+use crate::bench::Call;
 use crate::check::{self, Verdict};
 use crate::join::{self, JoinAnswer};
 use crate::record::{self, u16_at, u32_at, Part};
@@ -106,6 +107,15 @@ pub fn hookup(shelf: &mut [u8], i: usize, j: usize) -> Answer {
         None => {}
     }
     append(shelf, &walk, &join::joined_record(&a, &b))
+}
+
+/// A call of a list of calls.
+pub fn call(shelf: &mut [u8], call: &Call) -> Answer {
+    match call {
+        Call::Clear => clear(shelf),
+        Call::Load(record) => load(shelf, record),
+        Call::Hookup(i, j) => hookup(shelf, *i, *j),
+    }
 }
 
 /// Count. None stands for refusal 12.

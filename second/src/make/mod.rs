@@ -12,6 +12,7 @@ mod pairs;
 mod passing;
 mod scripts;
 mod shapes;
+mod shelves;
 
 pub use breaks::{breaking, changed_steps, damaged_out_of_reach, small_random_table, Place, Wanted, PLACES};
 pub use damages::{bad_record, damage, label, mangled, misnumber, random_bytes};
@@ -41,10 +42,14 @@ pub use passing::{
     LITTLE_QUIET, SOME_QUIET,
 };
 pub use scripts::{
-    calls, calls_on_limited, calls_on_lists, capacity_needed, hookup_calls, session, session_on_limited,
-    session_on_lists, Script,
+    any_calls, any_number, calls, calls_on_limited, calls_on_lists, capacity_needed, hookup_calls, malformed, session,
+    session_on_limited, session_on_lists, Script,
 };
 pub use shapes::{
     passing_shaped, shaped, shaped_without_inputs, steps_of_shape, with_near_levels, with_quiet_events_internal,
     with_quiet_steps, Shape, SHAPES,
+};
+pub use shelves::{
+    any_bytes, any_on_shelf, any_records, bare, behind_the_end, failing, failures_of, foreign, long, many_records,
+    shelf_of, undescribed, without_end, Failure, NoEnd, NO_ENDS,
 };

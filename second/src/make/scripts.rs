@@ -1,7 +1,7 @@
-//! Makes lists of calls, and scripts for `replay`.
+//! Makes lists of calls, and scripts for `replay` and hookup_run.
 
 use super::damages::bad_record;
-use super::kinds::bus_of_limited;
+use super::kinds::{any_of_kinds, bus_of_limited};
 use super::limited::any_limited;
 use super::lists::{any_list, bus_of_lists};
 use super::pairs::bus;
@@ -51,13 +51,27 @@ fn calls_on(rng: &mut Rng, count: usize, bus: Bus) -> Vec<Call> {
     calls
 }
 
-/// A script for `replay`.
-#[derive(Clone)]
+/// A script for `replay`, or the calls alone for hookup_run.
+#[derive(Clone, Default)]
 pub struct Script {
     pub bytes: Vec<u8>,
 }
 
 impl Script {
+    /// Without a capacity.
+    pub fn of_calls() -> Script {
+        Script::default()
+    }
+
+    /// The same with these calls.
+    pub fn with(calls: &[Call]) -> Script {
+        let mut script = Script::of_calls();
+        for call in calls {
+            script.call(call);
+        }
+        script
+    }
+
     pub fn new(capacity: usize) -> Script {
         let mut bytes = Vec::new();
         push_u32(&mut bytes, capacity as u32);
@@ -165,6 +179,48 @@ fn session_on(rng: &mut Rng, capacity: usize, operations: usize, bus: Bus, other
         }
     }
     script
+}
+
+/// A part's number for a shelf of so many records: good, just out of range, far out of range, or good if the higher bytes
+/// were left out.
+pub fn any_number(rng: &mut Rng, records: usize) -> u32 {
+    match rng.below(10) {
+        0 => records as u32,
+        1 => records as u32 + rng.below(3) as u32,
+        2 => rng.pick(&[u32::MAX, u32::MAX, 1 << 31]),
+        3 => rng.pick(&[1 << 8, 1 << 16]) + rng.below(records.max(1)) as u32,
+        _ => rng.below(records.max(1)) as u32,
+    }
+}
+
+/// Calls on a shelf of so many records: hookups of any two of them, loads of good and bad records, now and then a clear.
+pub fn any_calls(rng: &mut Rng, records: usize, count: usize) -> Vec<Call> {
+    let call = |rng: &mut Rng| match rng.below(9) {
+        0 => Call::Clear,
+        1 => Call::Load(bad_record(rng)),
+        2 => Call::Load(record::write(&any_of_kinds(rng))),
+        3 => Call::Load(examples::z()),
+        _ => Call::Hookup(any_number(rng, records) as usize, any_number(rng, records) as usize),
+    };
+    (0..count).map(|_| call(rng)).collect()
+}
+
+/// The bytes of each operation that makes a script malformed: Count, Part and an unknown one, then each that can be cut off.
+pub fn malformed(rng: &mut Rng) -> Vec<Vec<u8>> {
+    let cut =
+        |rng: &mut Rng, operation: &[u8], fewest: usize| operation[..rng.range(fewest, operation.len() - 1)].to_vec();
+    let mut far = vec![1];
+    push_u32(&mut far, rng.pick(&[1, 12, 1 << 20, u32::MAX]));
+    vec![
+        vec![3],
+        vec![4, rng.byte(), 0, 0, 0],
+        vec![rng.pick(&[5, 6, 127, 128, 255])],
+        cut(rng, &[1, 0, 0, 0, 0], 1),
+        far,
+        cut(rng, &[1, 5, 0, 0, 0, 1, 0, 1, 0, 0], 5),
+        cut(rng, &[2, 0, 0, 0, 0, 0, 0, 0, 0], 1),
+        cut(rng, &[4, 0, 0, 0, 0], 1),
+    ]
 }
 
 /// The capacity that a list of calls needs so that nothing is refused with 15, on a bench of that capacity.

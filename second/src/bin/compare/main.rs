@@ -9,15 +9,20 @@ mod check;
 mod closure;
 mod explain;
 mod internal;
+mod inventory;
 mod join;
 mod kind;
 mod label;
 mod limited;
 mod list;
+mod load;
 mod product;
 mod replay;
 mod replay_limits;
+mod replay_run;
 mod report;
+mod run;
+mod run_inputs;
 mod verdict;
 
 use second::category::Tally;
@@ -120,7 +125,7 @@ fn arguments() -> Arguments {
     found
 }
 
-/// Each of the six comparisons has its own numbers, so that leaving one out does not change the others.
+/// Each of the comparisons has its own numbers, so that leaving one out does not change the others.
 fn rng_for(seed: u64, comparison: u64) -> Rng {
     Rng::new(Rng::new(seed).next().wrapping_add(comparison))
 }
@@ -133,10 +138,15 @@ fn main() {
     join::need(&mut run.tally);
     closure::need(&mut run.tally);
     explain::need(&mut run.tally);
+    run::need(&mut run.tally);
+    inventory::need(&mut run.tally);
     run.compare("hookup_check", arguments.seed, 1, |run| run.all_checks());
     run.compare("hookup_join", arguments.seed, 2, |run| run.all_joins());
     run.compare("hookup_closure", arguments.seed, 5, |run| run.all_closures());
     run.compare("hookup_explain", arguments.seed, 6, |run| run.all_explanations());
+    run.compare("hookup_run", arguments.seed, 7, |run| run.all_runs());
+    run.compare("hookup_count", arguments.seed, 8, |run| run.all_counts());
+    run.compare("hookup_part", arguments.seed, 9, |run| run.all_parts());
     match arguments.verdict {
         Some(path) => {
             verdict::need(&mut run.tally);

@@ -1,4 +1,4 @@
-//! Calls the product: its four C entries, and its programs as processes.
+//! Calls the product: its seven C entries, and its programs as processes.
 
 use second::rng::Rng;
 use std::io::{Read, Write};
@@ -9,6 +9,16 @@ extern "C" {
     fn hookup_join(a: *const u8, alen: usize, b: *const u8, blen: usize, out: *mut u8, outlen: usize) -> u32;
     fn hookup_closure(record: *const u8, len: usize, out: *mut u8, outlen: usize) -> u32;
     fn hookup_explain(record: *const u8, len: usize, out: *mut u8, outlen: usize) -> u32;
+    fn hookup_run(
+        script: *const u8,
+        len: usize,
+        shelf: *mut u8,
+        shelflen: usize,
+        answers: *mut u8,
+        answerslen: usize,
+    ) -> u32;
+    fn hookup_count(shelf: *const u8, len: usize, out: *mut u8, outlen: usize) -> u32;
+    fn hookup_part(shelf: *const u8, len: usize, i: usize, out: *mut u8, outlen: usize) -> u32;
 }
 
 /// Bytes lent to the product, with guard bytes before and behind them, at any alignment.
@@ -92,6 +102,31 @@ pub fn closure(record: &Lent, out: &mut Lent) -> u32 {
 /// What hookup_explain returns; it writes to `out`.
 pub fn explain(record: &Lent, out: &mut Lent) -> u32 {
     unsafe { hookup_explain(record.pointer(), record.length, out.pointer_to_write(), out.length) }
+}
+
+/// What hookup_run returns; it writes to `shelf` and to `answers`.
+pub fn run(script: &Lent, shelf: &mut Lent, answers: &mut Lent) -> u32 {
+    let (shelflen, answerslen) = (shelf.length, answers.length);
+    unsafe {
+        hookup_run(
+            script.pointer(),
+            script.length,
+            shelf.pointer_to_write(),
+            shelflen,
+            answers.pointer_to_write(),
+            answerslen,
+        )
+    }
+}
+
+/// What hookup_count returns; it writes to `out`.
+pub fn count(shelf: &Lent, out: &mut Lent) -> u32 {
+    unsafe { hookup_count(shelf.pointer(), shelf.length, out.pointer_to_write(), out.length) }
+}
+
+/// What hookup_part returns; it writes to `out`.
+pub fn part(shelf: &Lent, i: usize, out: &mut Lent) -> u32 {
+    unsafe { hookup_part(shelf.pointer(), shelf.length, i, out.pointer_to_write(), out.length) }
 }
 
 /// Runs a program on an input; its output, or how it failed.

@@ -1,20 +1,21 @@
 //! Compares the program `replay`: its whole output, a process for each script. Loads and sessions.
 
-use crate::internal;
-use crate::kind::{self, LEAST_OF_KINDS};
-use crate::label;
+use crate::load;
 use crate::product::run_program;
+use crate::replay_run;
 use crate::report::{differ, shown};
 use crate::{all_examples, Comparison, LEAST, LEAST_OF_MAIN};
+use second::bench::Call;
 use second::cases;
 use second::category::Tally;
 use second::category_kind_replay;
-use second::category_replay::{self, verdict_of_load};
+use second::category_replay;
 use second::examples;
 use second::join;
 use second::make::{self, Script};
 use second::record;
-use second::replay::{self, hex, Effect, Operation};
+use second::replay::{self, hex, Effect};
+use second::script::Operation;
 
 /// Begins the name of each category of levels and of internal events.
 const LOAD: &str = "replay: load,";
@@ -24,9 +25,8 @@ pub fn need(tally: &mut Tally) {
         let least = if category_replay::is_main(&name) { LEAST_OF_MAIN } else { LEAST };
         tally.need(&format!("replay: {}", name), category_kind_replay::least_of(&name, least));
     }
-    label::need(tally, LOAD, LEAST);
-    internal::need(tally, LOAD, LEAST);
-    kind::need(tally, LOAD, LEAST_OF_KINDS);
+    load::need(tally, LOAD);
+    replay_run::need(tally);
 }
 
 impl Comparison {
@@ -53,12 +53,8 @@ impl Comparison {
             self.tally.count_if_known(&format!("replay: {}", name));
         }
         for done in &expected.done {
-            if let (Operation::Load(record), Effect::Answer(answer)) = (&done.operation, &done.effect) {
-                if let Some(verdict) = verdict_of_load(*answer) {
-                    self.count_labels(LOAD, record);
-                    self.count_internal(LOAD, record, verdict);
-                    self.count_kinds(LOAD, record, verdict);
-                }
+            if let (Operation::Call(Call::Load(record)), Effect::Answer(answer)) = (&done.operation, &done.effect) {
+                self.count_loaded(LOAD, record, *answer);
             }
         }
     }
@@ -154,6 +150,7 @@ impl Comparison {
         self.replay_odd_scripts(path);
         self.replays_of_lists(path);
         self.replays_of_limited(path);
+        self.replays_and_runs(path);
     }
 
     fn replay_sessions(&mut self, path: &str) {
