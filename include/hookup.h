@@ -232,7 +232,7 @@ struct hookup_place {
 
 /* Finds the record of part i on a shelf, whether it passes or not.
  *
- * Answers HOOKUP_FOUND, and the first HOOKUP_PLACE bytes of out then are a struct hookup_place; the record ends on the shelf. Otherwise
+ * Answers HOOKUP_FOUND, and the first HOOKUP_PLACE bytes of out then are a struct hookup_place; all of the record lies on the shelf. Otherwise
  * nothing is written, and the answer is the first of these that applies:
  *   HOOKUP_NO_END
  *   HOOKUP_NO_PART

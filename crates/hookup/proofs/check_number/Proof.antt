@@ -1,9 +1,9 @@
-use mathlib.Core.Path.{sym, ap, _∙_}
+use mathlib.Core.Path.{refl, ap, _∙_}
 use native.Mathlib.Omega.{arith}
-use Rattle.restrictive.specs.declared.answer.Verdict.{Verdict}
 use Rattle.restrictive.specs.Answers.{violation-of, verdict-of}
 use Rattle.hookup.specs.Numbers.{check-number}
 use borrow.Author.Needs.{needs}
+use Rattle.hookup.proofs.Numbered.{as-number}
 use Rattle.hookup.proofs.check_number.Statement.{statement}
 use Rattle.hookup.proofs.check_number.Tie as tie
 
@@ -33,19 +33,19 @@ add-result c =
 
 returns : tie.Need-returns
 unfolding check-number verdict-of
-returns c = (ap (λ (v : Verdict). check-number (verdict-of v)) (sym (c .enum-told .given .1)), omega arith)
+returns c = (as-number verdict-of check-number (c .enum-told .given .1) refl, omega arith)
 
 returns-2 : tie.Need-returns-2
 unfolding check-number verdict-of
 returns-2 c =
     let v = c .before .before .v .given in
-    (c .number .ensures .0 ∙ ap (λ (v : Verdict). check-number (verdict-of v)) (sym (v .1)), omega arith)
+    (c .number .ensures .0 ∙ as-number verdict-of check-number (v .1) refl, omega arith)
 
 returns-3 : tie.Need-returns-3
 unfolding check-number verdict-of violation-of
 returns-3 c =
     let v = c .before .before .v2 .given in (
-      ap (λ (v : Verdict). check-number (verdict-of v)) (sym (v .1)),
+      as-number verdict-of check-number (v .1) refl,
       omega
           (arith, c .before .before .before .before .pre (violation-of (v .0 .0)) (ap verdict-of (v .1))),
     )

@@ -4,6 +4,7 @@ use Rattle.restrictive.proofs.Theorems.{break-rule}
 use Rattle.explain.specs.Answers.{explaining-of}
 use Rattle.explain.proofs.Told.{explained-breaks}
 use Rattle.hookup.specs.Numbers.{check-number}
+use Rattle.hookup.proofs.Numbered.{as-number}
 use Rattle.hookup.proofs.hookup_explain.Statement.{statement}
 use Rattle.hookup.proofs.hookup_explain.Tie as tie
 
@@ -30,7 +31,7 @@ returns : tie.Need-returns
 unfolding explaining-of
 returns c =
     let (answer, after) = c .before .before .before .before .before .before .explain .ensures in
-    (c .check-number .ensures .0 ∙ ap check-number (sym (ap explaining-of (c .before .before .answer .given .1)) ∙ answer), after)
+    (c .check-number .ensures .0 ∙ as-number explaining-of check-number (c .before .before .answer .given .1) answer, after)
 
 same-length-2 : tie.Need-same-length-2
 same-length-2 c = search needs
@@ -39,7 +40,7 @@ returns-2 : tie.Need-returns-2
 unfolding explaining-of check-number
 returns-2 c =
     let (answer, after) = c .before .before .before .before .explain .ensures in
-    (ap check-number (sym (ap explaining-of (c .enum-told .given .1)) ∙ answer), after)
+    (as-number explaining-of check-number (c .enum-told .given .1) answer, after)
 
 pub hookup-explain-spec : {M : Type 1} → statement M
 hookup-explain-spec = tie.close (tie.spec explain-requires enum-known-answer check-number-requires enum-told same-length

@@ -1,7 +1,7 @@
-use mathlib.Core.Path.{sym, ap, _∙_}
 use borrow.Author.Needs.{needs}
 use Rattle.batch.specs.Answers.{outcome-of}
 use Rattle.hookup.specs.Numbers.{run-number}
+use Rattle.hookup.proofs.Numbered.{as-number}
 use Rattle.hookup.proofs.hookup_run.Statement.{statement}
 use Rattle.hookup.proofs.hookup_run.Tie as tie
 
@@ -27,7 +27,7 @@ returns : tie.Need-returns
 unfolding run-number outcome-of
 returns c =
     let (outcome, buffers) = c .before .before .before .before .before .before .run .ensures in
-    (ap run-number (sym (ap outcome-of (c .enum-told .given .1)) ∙ outcome), buffers)
+    (as-number outcome-of run-number (c .enum-told .given .1) outcome, buffers)
 
 same-length-3 : tie.Need-same-length-3
 same-length-3 c = search needs
@@ -39,7 +39,7 @@ returns-2 : tie.Need-returns-2
 unfolding run-number outcome-of
 returns-2 c =
     let (outcome, buffers) = c .before .before .before .before .before .before .run .ensures in
-    (ap run-number (sym (ap outcome-of (c .enum-told2 .given .1)) ∙ outcome), buffers)
+    (as-number outcome-of run-number (c .enum-told2 .given .1) outcome, buffers)
 
 same-length-5 : tie.Need-same-length-5
 same-length-5 c = search needs
@@ -51,7 +51,7 @@ returns-3 : tie.Need-returns-3
 unfolding run-number outcome-of
 returns-3 c =
     let (outcome, buffers) = c .before .before .before .before .before .before .run .ensures in
-    (ap run-number (sym (ap outcome-of (c .enum-told3 .given .1)) ∙ outcome), buffers)
+    (as-number outcome-of run-number (c .enum-told3 .given .1) outcome, buffers)
 
 pub hookup-run-spec : {M : Type 1} → statement M
 hookup-run-spec =

@@ -1,8 +1,8 @@
-use mathlib.Core.Path.{sym, ap}
-use Rattle.composite.specs.declared.answer.Obstacle.{Obstacle}
+use mathlib.Core.Path.{refl}
 use Rattle.composite.specs.Answers.{obstacle-of}
 use Rattle.hookup.specs.Numbers.{obstacle-number}
 use borrow.Author.Needs.{needs}
+use Rattle.hookup.proofs.Numbered.{as-number}
 use Rattle.hookup.proofs.obstacle_number.Statement.{statement}
 use Rattle.hookup.proofs.obstacle_number.Tie as tie
 
@@ -17,15 +17,15 @@ enum-told-3 c = search needs
 
 returns : tie.Need-returns
 unfolding obstacle-number obstacle-of
-returns c = ap (λ (o : Obstacle). obstacle-number (obstacle-of o)) (sym (c .enum-told .given .1))
+returns c = as-number obstacle-of obstacle-number (c .enum-told .given .1) refl
 
 returns-2 : tie.Need-returns-2
 unfolding obstacle-number obstacle-of
-returns-2 c = ap (λ (o : Obstacle). obstacle-number (obstacle-of o)) (sym (c .enum-told2 .given .1))
+returns-2 c = as-number obstacle-of obstacle-number (c .enum-told2 .given .1) refl
 
 returns-3 : tie.Need-returns-3
 unfolding obstacle-number obstacle-of
-returns-3 c = ap (λ (o : Obstacle). obstacle-number (obstacle-of o)) (sym (c .enum-told3 .given .1))
+returns-3 c = as-number obstacle-of obstacle-number (c .enum-told3 .given .1) refl
 
 pub obstacle-number-spec : {M : Type 1} → statement M
 obstacle-number-spec =
