@@ -2,12 +2,12 @@
 use Prim.Native.Nat.{ℕ, _+_, _*_, _≤_, _<_}
 use mathlib.Core.Path.{_≡_, refl, sym, ap, _∙_}
 use mathlib.Core.List.{List, [], _∷_}
-use mathlib.Core.Option.{none, some, Option·map}
+use mathlib.Core.Option.{Option, none, some, Option·map}
 use native.Mathlib.Omega.{arith}
 use lib.ListN.{length, getD, drop, length-drop, length-append}
 use lib.Seq.{drop-drop}
 use borrow.Author.Tests.{lt-ltb, le-ltb}
-use Rattle.bounded.specs.Search.{each}
+use Rattle.bounded.specs.Search.{when, each}
 use Rattle.words.specs.LittleEndian.{digits, as-words}
 use Rattle.words.specs.Laid.{over}
 use Rattle.words.proofs.LittleEndian.{length-digits, length-each}
@@ -19,7 +19,7 @@ use Rattle.store.specs.Demand.{step, shelf-after, shelf-answers}
 use Rattle.batch.specs.Script.{calls, listed}
 use Rattle.batch.specs.Slots.{numbers, slots}
 use Rattle.batch.specs.Performed.{Done, Performed}
-use Rattle.batch.specs.Running.{Outcome, ran, malformed, too-few, Left, run-calls, run}
+use Rattle.batch.specs.Running.{refusal, made}
 use Rattle.batch.proofs.Calls.{calls-none-left, call-sized, First, calls-first, listed-none}
 
 -- ---- the answers
@@ -124,21 +124,29 @@ module _ (script shelf₀ out₀ shelf out : List ℕ) (at slot : ℕ) (m : Made
 
 -- ---- the whole script
 
--- The outcome and the two buffers that the code is to give, in the form in which its contract has them.
-abbrev pub Leaves : Left → Outcome → List ℕ → List ℕ → Type 0
-Leaves l o shelf answers = (o ≡ l .outcome) × ((shelf ≡ l .shelf) × (answers ≡ l .answers))
+-- A run is answered with the refusal that applies, or with none, and makes these calls.
+abbrev pub Answers : List ℕ → ℕ → Option ℕ → List Call → Type 0
+Answers script room answer cs = (answer ≡ refusal script room) × (made script room ≡ cs)
 
-module _ (script s out : List ℕ) where
-  pub run-malformed : none ≡ Option·map length (calls script) → Leaves (run script s out) malformed s out
-  unfolding run
-  run-malformed e = let so = listed-none script e in rw (so, run) (refl, (refl, refl))
+module _ (script : List ℕ) (room : ℕ) where
+  pub run-malformed : none ≡ Option·map length (calls script) → Answers script room (some 99) []
+  unfolding refusal made
+  run-malformed e =
+      let none-listed = listed-none script e in
+      let so : refusal script room ≡ some 99 = rw (none-listed, refusal) in
+      (sym so, rw (so, made))
 
-  module _ (cs : List Call) (all : calls script ≡ some cs) where
-    pub run-too-few : length out < length cs * 64 → Leaves (run script s out) too-few s out
-    unfolding run run-calls
-    run-too-few h = let small = lt-ltb (length out) (length cs * 64) h in rw (all, run, small) (refl, (refl, refl))
+  module _ (all : calls script ≡ some (listed script)) where
+    pub run-too-few : room < length (listed script) * 64 → Answers script room (some 15) []
+    unfolding refusal made when
+    run-too-few h =
+        let small = lt-ltb room (length (listed script) * 64) h in
+        let so : refusal script room ≡ some 15 = rw (all, refusal, small) in
+        (sym so, rw (so, made))
 
-    pub run-all : length cs * 64 ≤ length out
-        → Leaves (run script s out) (ran (length cs)) (shelf-after cs s) (over out 0 (slots (shelf-answers cs s)))
-    unfolding run run-calls
-    run-all h = let enough = le-ltb (length out) (length cs * 64) h in rw (all, run, enough) (refl, (refl, refl))
+    pub run-all : length (listed script) * 64 ≤ room → Answers script room none (listed script)
+    unfolding refusal made when
+    run-all h =
+        let enough = le-ltb room (length (listed script) * 64) h in
+        let so : refusal script room ≡ none = rw (all, refusal, enough) in
+        (sym so, rw (so, made))

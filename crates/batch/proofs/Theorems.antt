@@ -1,7 +1,6 @@
 -- Demand 3 about runs.
 use Prim.Native.Nat.{ℕ, suc, _+_, _≤_, _<_}
 use mathlib.Core.Path.{_≡_, refl, sym, ap, _∙_}
-use mathlib.Core.Bool.{Bool, true, false, cond}
 use mathlib.Core.List.{List, [], _∷_, _++_}
 use mathlib.Core.Option.{Option, none, some}
 use native.Mathlib.Omega.{arith}
@@ -10,7 +9,6 @@ use lib.Seq.{length-take-le, getD-take, getD-drop, take-append-seam, drop-append
 use Rattle.words.specs.LittleEndian.{Bytes}
 use Rattle.words.specs.Laid.{over}
 use Rattle.words.proofs.LittleEndian.{byte-lt}
-use Rattle.words.proofs.LaidLaws.{over-nothing}
 use Rattle.script.specs.Operation as script
 use Rattle.script.specs.Operation.{operation, size}
 use Rattle.script.proofs.Operations.{Stands, a-clear, a-load, a-hookup, a-count, a-part, at-end, cut-off, another}
@@ -19,10 +17,10 @@ use Rattle.store.specs.Answer.{Answer}
 use Rattle.store.specs.Model.{Call, clear, load, hookup}
 use Rattle.store.specs.Demand.{step, shelf-after, shelf-answers, BytesLoaded}
 use Rattle.store.proofs.Theorems.{demand3}
-use Rattle.batch.specs.Script.{call-of, calls}
+use Rattle.batch.specs.Script.{call-of, calls, listed}
 use Rattle.batch.specs.Slots.{slots}
-use Rattle.batch.specs.Running.{Left, short-for, run-calls, run}
-use Rattle.batch.specs.Runs.{Run, left, made, all-made, shelf-after-runs, buffers-after, dealt, BytesRun}
+use Rattle.batch.specs.Running.{refusal, made}
+use Rattle.batch.specs.Runs.{Run, made-by, all-made, shelf-after-runs, buffers-after, dealt, BytesRun}
 use Rattle.batch.specs.Theorems.{RunsDemand3}
 use Rattle.batch.proofs.Calls.{calls-some-left, calls-first}
 
@@ -66,23 +64,27 @@ loaded-both (clear ∷ cs) ds a b = loaded-both cs ds a b
 loaded-both (load r ∷ cs) ds a b = (a .0, loaded-both cs ds (a .1) b)
 loaded-both (hookup i j ∷ cs) ds a b = loaded-both cs ds a b
 
-loaded-made : (r : Run) → Bytes (r .script) → BytesLoaded (made r)
-unfolding made
-loaded-made r b = go (calls (r .script)) refl
+loaded-listed : (s : List ℕ) → Bytes s → BytesLoaded (listed s)
+unfolding listed
+loaded-listed s b = go (calls s) refl
   where
-    unless : (x : Bool) (cs : List Call) → BytesLoaded cs → BytesLoaded (cond x [] cs)
-    unless true cs l = tt
-    unless false cs l = l
+    go : (o : Option (List Call)) → calls s ≡ o → BytesLoaded (listed s)
+    go none q = rw (q, listed) tt
+    go (some cs) q = rw (q, listed) (loaded cs s b q)
 
-    go : (o : Option (List Call)) → calls (r .script) ≡ o → BytesLoaded (made r)
-    go none q = rw (q, made) tt
-    go (some cs) q =
-        rw (q, made) (unless (short-for cs (r .out)) cs (loaded cs (r .script) b q))
+loaded-made : (s : List ℕ) (room : ℕ) → Bytes s → BytesLoaded (made s room)
+unfolding made
+loaded-made s room b = go (refusal s room) refl
+  where
+    go : (o : Option ℕ) → refusal s room ≡ o → BytesLoaded (made s room)
+    go none q = rw (q, made) (loaded-listed s b)
+    go (some k) q = rw (q, made) tt
 
 loaded-all : (rs : List Run) → BytesRun rs → BytesLoaded (all-made rs)
 unfolding all-made
 loaded-all [] b = tt
-loaded-all (r ∷ rs) b = loaded-both (made r) (all-made rs) (loaded-made r (b .0)) (loaded-all rs (b .1))
+loaded-all (r ∷ rs) b =
+    loaded-both (made-by r) (all-made rs) (loaded-made (r .script) (length (r .out)) (b .0)) (loaded-all rs (b .1))
 
 -- ---- one list of calls
 
@@ -105,46 +107,25 @@ as-many (c ∷ cs) s = ap suc (as-many cs (step c s .shelf))
 
 -- ---- the runs
 
--- A run makes its calls: all of the script's, or none.
-run-made : (r : Run) (s : List ℕ)
-    → (left r s .shelf ≡ shelf-after (made r) s)
-    × (left r s .answers ≡ over (r .out) 0 (slots (shelf-answers (made r) s)))
-unfolding made run run-calls shelf-after shelf-answers slots
-run-made r s = go (calls (r .script)) refl
-  where
-    Makes : Left → List Call → Type 0
-    Makes l cs = (l .shelf ≡ shelf-after cs s) × (l .answers ≡ over (r .out) 0 (slots (shelf-answers cs s)))
-
-    fits : (cs : List Call) (x : Bool) → short-for cs (r .out) ≡ x
-        → Makes (run-calls cs s (r .out)) (cond x [] cs)
-    fits cs true q = rw (q, run-calls) (refl, sym (over-nothing (r .out) 0))
-    fits cs false q = rw (q, run-calls) (refl, refl)
-
-    go : (o : Option (List Call)) → calls (r .script) ≡ o → Makes (left r s) (made r)
-    go none q = rw (q, run, made) (refl, sym (over-nothing (r .out) 0))
-    go (some cs) q = rw (q, run, made) (fits cs (short-for cs (r .out)) refl)
-
 runs-shelf : (rs : List Run) (s : List ℕ) → shelf-after-runs rs s ≡ shelf-after (all-made rs) s
 unfolding shelf-after-runs all-made shelf-after
 runs-shelf [] s = refl
 runs-shelf (r ∷ rs) s =
-    rw (run-made r s .0) (runs-shelf rs (shelf-after (made r) s)) ∙ sym (shelf-both (made r) (all-made rs) s)
+    runs-shelf rs (shelf-after (made-by r) s) ∙ sym (shelf-both (made-by r) (all-made rs) s)
 
 runs-answers : (rs : List Run) (s : List ℕ) → buffers-after rs s ≡ dealt rs (shelf-answers (all-made rs) s)
 unfolding buffers-after all-made dealt
 runs-answers [] s = refl
 runs-answers (r ∷ rs) s =
-    let mine = shelf-answers (made r) s in
-    let others = shelf-answers (all-made rs) (shelf-after (made r) s) in
+    let mine = shelf-answers (made-by r) s in
+    let others = shelf-answers (all-made rs) (shelf-after (made-by r) s) in
     rw (
-      run-made r s .0,
-      run-made r s .1,
-      answers-both (made r) (all-made rs) s,
-      ← as-many (made r) s,
+      answers-both (made-by r) (all-made rs) s,
+      ← as-many (made-by r) s,
       take-append-seam mine others,
       drop-append-seam mine others,
     )
-    (ap (λ (more : List (List ℕ)). over (r .out) 0 (slots mine) ∷ more) (runs-answers rs (shelf-after (made r) s)))
+    (ap (λ (more : List (List ℕ)). over (r .out) 0 (slots mine) ∷ more) (runs-answers rs (shelf-after (made-by r) s)))
 
 -- ---- demand 3
 

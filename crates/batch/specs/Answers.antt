@@ -1,9 +1,10 @@
--- What the answers of the code mean.
+-- What the answers of the code mean: no refusal, or one by its number.
+use Prim.Native.Nat.{ℕ}
+use mathlib.Core.Option.{Option, none, some}
 use Rattle.batch.specs.declared.answer.Running.{Running}
-use Rattle.batch.specs.declared.answer.Running.the-variants as running
-use Rattle.batch.specs.Running.{Outcome, ran, malformed, too-few}
+use Rattle.batch.specs.declared.answer.Running.the-variants.{Ran, Malformed, TooFew}
 
-unfoldable pub outcome-of : Running → Outcome
-outcome-of (running.Ran n) = ran n
-outcome-of running.Malformed = malformed
-outcome-of running.TooFew = too-few
+unfoldable pub refusal-of : Running → Option ℕ
+refusal-of Ran = none
+refusal-of Malformed = some 99
+refusal-of TooFew = some 15

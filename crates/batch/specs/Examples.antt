@@ -2,20 +2,20 @@
 use Prim.Native.Nat.{ℕ}
 use mathlib.Core.Path.{_≡_, refl}
 use mathlib.Core.List.{List, [], _∷_, _++_}
-use mathlib.Core.Option.{none, some}
-use lib.ListN.{replicate}
-use Rattle.bounded.specs.Search.{each}
+use mathlib.Core.Option.{Option, none, some}
+use lib.ListN.{length, replicate}
+use Rattle.bounded.specs.Search.{when, each}
 use Rattle.words.specs.Laid.{over}
 use Rattle.words.specs.LittleEndian.{number, digits, as-words}
 use Rattle.script.specs.Operation.{load-of, call, operation, size}
 use Rattle.store.specs.Answer.{gives, refused, clash, breaks}
-use Rattle.store.specs.Model.{Call, clear, load, hookup}
-use Rattle.store.specs.Demand.{shelf-after}
+use Rattle.store.specs.Model.{clear, load, hookup}
+use Rattle.store.specs.Demand.{shelf-after, shelf-answers}
 use Rattle.store.specs.Computed.{told}
-use Rattle.batch.specs.Script.{call-of, calls-at-most, calls}
+use Rattle.batch.specs.Script.{call-of, calls-at-most, calls, listed}
 use Rattle.batch.specs.Slots.{numbers, slots}
-use Rattle.batch.specs.Running.{Left, ran, malformed, too-few, run-calls, run}
-use Rattle.batch.specs.Runs.{Run, made, all-made, shelf-after-runs, buffers-after, dealt}
+use Rattle.batch.specs.Running.{refusal, made}
+use Rattle.batch.specs.Runs.{Run, all-made, shelf-after-runs, buffers-after, dealt}
 
 -- No call, and one of each kind.
 pub no-calls : calls [] ≡ some []
@@ -71,19 +71,20 @@ break-words = refl
 
 -- ---- runs
 
--- What a run leaves, as it computes.
-leaves : List ℕ → List ℕ → List ℕ → Left
-unfolding told shelf-after run run-calls calls calls-at-most call-of operation call size load-of number slots numbers as-words digits each over
-leaves script s out = run script s out
+-- The refusal of a run, if any, and the shelf and the buffer after it, as they compute.
+leaves : List ℕ → List ℕ → List ℕ → Option ℕ × (List ℕ × List ℕ)
+unfolding told shelf-after refusal made when listed calls calls-at-most call-of operation call size load-of number slots numbers as-words digits each over
+leaves script s out =
+    let cs = made script (length out) in
+    (refusal script (length out), (shelf-after cs s, over out 0 (slots (shelf-answers cs s))))
 
 -- A Clear on seven bytes; the last of them and the byte behind the answer stay.
-cleared : leaves (0 ∷ []) (replicate 7 9) (replicate 65 8)
-    ≡ record { outcome = ran 1; shelf = replicate 6 0 ++ (9 ∷ []); answers = replicate 64 0 ++ (8 ∷ []) }
+cleared : leaves (0 ∷ []) (replicate 7 9) (replicate 65 8) ≡ (none, (replicate 6 0 ++ (9 ∷ []), replicate 64 0 ++ (8 ∷ [])))
 unfolding leaves
 cleared = refl
 
 -- No call at all.
-nothing-to-do : leaves [] (9 ∷ []) (8 ∷ []) ≡ record { outcome = ran 0; shelf = 9 ∷ []; answers = 8 ∷ [] }
+nothing-to-do : leaves [] (9 ∷ []) (8 ∷ []) ≡ (none, (9 ∷ [], 8 ∷ []))
 unfolding leaves
 nothing-to-do = refl
 
@@ -92,34 +93,33 @@ nothing-to-do = refl
 abbrev one-hookup : List ℕ
 one-hookup = 2 ∷ replicate 8 0
 
-abbrev refused-with : ℕ → List ℕ → Left
-refused-with k s = record { outcome = ran 1; shelf = s; answers = 1 ∷ replicate 7 0 ++ k ∷ replicate 55 0 }
+abbrev refused-with : ℕ → List ℕ
+refused-with k = 1 ∷ replicate 7 0 ++ k ∷ replicate 55 0
 
-on-one-byte : leaves one-hookup (9 ∷ []) (replicate 64 8) ≡ refused-with 12 (9 ∷ [])
+on-one-byte : leaves one-hookup (9 ∷ []) (replicate 64 8) ≡ (none, (9 ∷ [], refused-with 12))
 unfolding leaves
 on-one-byte = refl
 
-on-an-empty-shelf : leaves one-hookup (replicate 6 0) (replicate 64 8) ≡ refused-with 13 (replicate 6 0)
+on-an-empty-shelf : leaves one-hookup (replicate 6 0) (replicate 64 8) ≡ (none, (replicate 6 0, refused-with 13))
 unfolding leaves
 on-an-empty-shelf = refl
 
-on-an-unfit-record : leaves one-hookup (1 ∷ replicate 12 0) (replicate 64 8) ≡ refused-with 14 (1 ∷ replicate 12 0)
+on-an-unfit-record : leaves one-hookup (1 ∷ replicate 12 0) (replicate 64 8) ≡ (none, (1 ∷ replicate 12 0, refused-with 14))
 unfolding leaves
 on-an-unfit-record = refl
 
 -- A refused call does not stop the run.
 goes-on : leaves (one-hookup ++ (0 ∷ [])) (replicate 6 9) (replicate 128 8)
-    ≡ record { outcome = ran 2; shelf = replicate 6 0; answers = 1 ∷ replicate 7 0 ++ 12 ∷ replicate 119 0 }
+    ≡ (none, (replicate 6 0, refused-with 12 ++ replicate 64 0))
 unfolding leaves
 goes-on = refl
 
 -- A malformed script comes before too few bytes for the answers, and with either nothing changes, also where a call comes first.
-malformed-first : leaves (0 ∷ 3 ∷ []) (replicate 6 9) (8 ∷ []) ≡ record { outcome = malformed; shelf = replicate 6 9; answers = 8 ∷ [] }
+malformed-first : leaves (0 ∷ 3 ∷ []) (replicate 6 9) (8 ∷ []) ≡ (some 99, (replicate 6 9, 8 ∷ []))
 unfolding leaves
 malformed-first = refl
 
-a-byte-short : leaves (0 ∷ 0 ∷ []) (replicate 6 9) (replicate 127 8)
-    ≡ record { outcome = too-few; shelf = replicate 6 9; answers = replicate 127 8 }
+a-byte-short : leaves (0 ∷ 0 ∷ []) (replicate 6 9) (replicate 127 8) ≡ (some 15, (replicate 6 9, replicate 127 8))
 unfolding leaves
 a-byte-short = refl
 
@@ -129,22 +129,19 @@ four =
     record { script = 0 ∷ 3 ∷ []; out = replicate 128 8 } ∷ record { script = 0 ∷ []; out = replicate 64 8 }
     ∷ record { script = 0 ∷ []; out = replicate 63 8 } ∷ record { script = one-hookup ++ (0 ∷ []); out = replicate 130 8 } ∷ []
 
-abbrev three-made : List Call
-three-made = clear ∷ hookup 0 0 ∷ clear ∷ []
-
-four-make-three : all-made four ≡ three-made
-unfolding leaves all-made made
+four-make-three : all-made four ≡ clear ∷ hookup 0 0 ∷ clear ∷ []
+unfolding leaves all-made
 four-make-three = refl
 
 -- Answers are dealt by the calls that were made, so that the refused runs take none.
 in-turn : dealt four (gives 5 ∷ refused 13 ∷ gives 7 ∷ [])
     ≡ replicate 128 8 ∷ (replicate 8 0 ++ 5 ∷ replicate 55 0) ∷ replicate 63 8
-    ∷ (1 ∷ replicate 7 0 ++ 13 ∷ replicate 55 0 ++ replicate 8 0 ++ 7 ∷ replicate 55 0 ++ 8 ∷ 8 ∷ []) ∷ []
-unfolding leaves dealt made
+    ∷ (refused-with 13 ++ replicate 8 0 ++ 7 ∷ replicate 55 0 ++ 8 ∷ 8 ∷ []) ∷ []
+unfolding leaves dealt
 in-turn = refl
 
 left-by-four : buffers-after four (replicate 6 9)
-    ≡ replicate 128 8 ∷ replicate 64 0 ∷ replicate 63 8 ∷ (1 ∷ replicate 7 0 ++ 13 ∷ replicate 119 0 ++ 8 ∷ 8 ∷ []) ∷ []
+    ≡ replicate 128 8 ∷ replicate 64 0 ∷ replicate 63 8 ∷ (refused-with 13 ++ replicate 64 0 ++ 8 ∷ 8 ∷ []) ∷ []
 unfolding leaves buffers-after
 left-by-four = refl
 

@@ -1,41 +1,18 @@
--- A whole list of calls run at once: its outcome, the shelf and the answers afterwards.
+-- A script run on a shelf: whether it is refused, and the calls that are made.
 use Prim.Native.Nat.{ℕ, _*_}
-use mathlib.Core.Bool.{Bool, cond}
-use mathlib.Core.List.{List}
-use mathlib.Core.Option.{none, some}
+use mathlib.Core.List.{List, []}
+use mathlib.Core.Option.{Option, none, some}
 use lib.Dec.{ltb}
 use lib.ListN.{length}
-use Rattle.words.specs.Laid.{over}
+use Rattle.bounded.specs.Search.{when}
 use Rattle.store.specs.Model.{Call}
-use Rattle.store.specs.Demand.{shelf-after, shelf-answers}
-use Rattle.batch.specs.Script.{calls}
-use Rattle.batch.specs.Slots.{slots}
+use Rattle.batch.specs.Script.{calls, listed}
 
--- So many calls were made; or none, since the script is malformed, or there are too few bytes for the answers.
-pub data Outcome : Type 0 where
-  ran : ℕ → Outcome
-  malformed too-few : Outcome
+-- The first refusal, with so many bytes for the answers: 99, which is no refusal of the documents, for a malformed
+-- script; 15 for fewer than 64 bytes for each call.
+unfoldable pub refusal : List ℕ → ℕ → Option ℕ
+refusal script room = elim (calls script) [ none ↦ some 99 | some cs ↦ when (ltb room (length cs * 64)) 15 ]
 
--- The outcome, and the two lent buffers after it.
-pub record Left : Type 0 where
-  pub outcome : Outcome
-  pub shelf : List ℕ
-  pub answers : List ℕ
-
--- The bytes for the answers are too few: 64 for each call.
-abbrev pub short-for : List Call → List ℕ → Bool
-short-for cs out = ltb (length out) (length cs * 64)
-
--- Some calls, run.
-unfoldable pub run-calls : List Call → List ℕ → List ℕ → Left
-run-calls cs s out =
-    cond (short-for cs out) (record { outcome = too-few; shelf = s; answers = out })
-    (record { outcome = ran (length cs); shelf = shelf-after cs s; answers = over out 0 (slots (shelf-answers cs s)) })
-
--- The calls of a script, run; a malformed script leaves both buffers as they were.
-unfoldable pub run : List ℕ → List ℕ → List ℕ → Left
-run script s out =
-    elim (calls script) [
-      | none ↦ record { outcome = malformed; shelf = s; answers = out }
-      | some cs ↦ run-calls cs s out
-    ]
+-- The calls that a run makes: those of the script, or none where it is refused.
+unfoldable pub made : List ℕ → ℕ → List Call
+made script room = elim (refusal script room) [ none ↦ listed script | some k ↦ [] ]

@@ -8,8 +8,8 @@ pub enum Listing {
 
 // How a run ends.
 pub enum Running {
-    // So many calls were made.
-    Ran(usize),
+    // All calls were made.
+    Ran,
     // Something else than calls of Clear, Load and Hookup stands in the script.
     Malformed,
     // Too few bytes for the answers.

@@ -5,8 +5,8 @@ ghost use Prim.Native.Nat.{_*_, _≤_};
 ghost use lib.ListN.{length};
 ghost use Rattle.words.specs.Laid.{over};
 ghost use Rattle.store.specs.Demand.{shelf-after, shelf-answers};
-ghost use Rattle.batch.specs.Answers.{outcome-of};
-ghost use Rattle.batch.specs.Running.{run};
+ghost use Rattle.batch.specs.Answers.{refusal-of};
+ghost use Rattle.batch.specs.Running.{refusal, made};
 ghost use Rattle.batch.specs.Script.{calls, listed};
 ghost use Rattle.batch.specs.Slots.{slots};
 use crate::answer::Listing;
@@ -36,9 +36,11 @@ fn perform_all(script: &[u8], shelf: &mut [u8], out: &mut [u8])
 // Makes all calls of the script, and lays an answer of 64 bytes for each over the start of out; or none, where that
 // cannot be.
 pub fn run(script: &[u8], shelf: &mut [u8], out: &mut [u8]) -> Running
-    ensures { λ r. ⌜ outcome-of r ≡ run (now (script .entry)) (now (shelf .entry)) (now (out .entry)) .outcome ⌝ }
-    ensures { λ r. ⌜ now (shelf .exit) ≡ run (now (script .entry)) (now (shelf .entry)) (now (out .entry)) .shelf ⌝ }
-    ensures { λ r. ⌜ now (out .exit) ≡ run (now (script .entry)) (now (shelf .entry)) (now (out .entry)) .answers ⌝ }
+    ensures { λ r. ⌜ refusal-of r ≡ refusal (now (script .entry)) (length (now (out .entry))) ⌝ }
+    ensures { λ r. ⌜ now (shelf .exit)
+        ≡ shelf-after (made (now (script .entry)) (length (now (out .entry)))) (now (shelf .entry)) ⌝ }
+    ensures { λ r. ⌜ now (out .exit)
+        ≡ over (now (out .entry)) 0 (slots (shelf-answers (made (now (script .entry)) (length (now (out .entry)))) (now (shelf .entry)))) ⌝ }
 {
     let listed = listing(script);
     let Listing::Calls(n) = listed else {
@@ -48,5 +50,5 @@ pub fn run(script: &[u8], shelf: &mut [u8], out: &mut [u8]) -> Running
         return Running::TooFew;
     }
     perform_all(script, shelf, out);
-    Running::Ran(n)
+    Running::Ran
 }

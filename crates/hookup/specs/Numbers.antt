@@ -2,7 +2,6 @@
 use Prim.Native.Nat.{ℕ, _+_}
 use mathlib.Core.Option.{Option, none, some}
 use Rattle.restrictive.specs.Verdict.{Verdict, pass, refused, breaks}
-use Rattle.batch.specs.Running.{Outcome, ran, malformed, too-few}
 use Rattle.composite.specs.Joining.{Obstacle, refusal, clash, Side, first-record, second-record, Joining, length-is, unfit, stopped}
 
 -- 0 for a pass, the refusal's number, or 100 plus the rule for a break.
@@ -30,10 +29,3 @@ join-number (stopped o) = obstacle-number o
 unfoldable pub refusal-number : Option ℕ → ℕ
 refusal-number none = 0
 refusal-number (some k) = k
-
--- 0 for a run, however its calls were answered; 99, which is no refusal of the documents, for a malformed script; 15 for too few bytes for
--- the answers.
-unfoldable pub run-number : Outcome → ℕ
-run-number (ran n) = 0
-run-number malformed = 99
-run-number too-few = 15

@@ -4,7 +4,7 @@ ghost use Prim.Native.Nat.{_≤_};
 ghost use lib.ListN.{length};
 ghost use Rattle.restrictive.specs.Verdict.{Violation, breaks, verdict};
 ghost use Rattle.restrictive.specs.Answers.{verdict-of};
-ghost use Rattle.words.specs.Laid.{laid-unless};
+ghost use Rattle.words.specs.Laid.{over, laid-unless};
 ghost use Rattle.closure.specs.Closures as closures;
 ghost use Rattle.explain.specs.Explanation as explanations;
 ghost use Rattle.explain.specs.Explanation.{explained};
@@ -13,8 +13,10 @@ ghost use Rattle.composite.specs.Joining.{joining, buffer-after};
 ghost use Rattle.composite.specs.Answers.{side-of, obstacle-of};
 ghost use Rattle.inventory.specs.Inventory.{count-told, part-told, bytes, refusal};
 ghost use Rattle.inventory.specs.Answers as inventory;
-ghost use Rattle.batch.specs.Running.{run};
-ghost use Rattle.hookup.specs.Numbers.{check-number, side-number, obstacle-number, join-number, refusal-number, run-number};
+ghost use Rattle.store.specs.Demand.{shelf-after, shelf-answers};
+ghost use Rattle.batch.specs.Running as runs;
+ghost use Rattle.batch.specs.Slots.{slots};
+ghost use Rattle.hookup.specs.Numbers.{check-number, side-number, obstacle-number, join-number, refusal-number};
 use batch::answer::Running;
 use batch::run::run;
 use closure::answer::Listing;
@@ -130,13 +132,13 @@ pub extern "C" fn hookup_explain(bytes: &[u8], out: &mut [u8]) -> u32
 // 0 where all calls of the script were made on the shelf, with an answer to each at the start of answers; 99 or 15 where none was.
 #[no_mangle]
 pub extern "C" fn hookup_run(script: &[u8], shelf: &mut [u8], answers: &mut [u8]) -> u32
-    ensures { λ k. ⌜ k ≡ run-number (run (now (script .entry)) (now (shelf .entry)) (now (answers .entry)) .outcome) ⌝ }
-    ensures { λ k. ⌜ now (shelf .exit) ≡ run (now (script .entry)) (now (shelf .entry)) (now (answers .entry)) .shelf ⌝ }
-    ensures { λ k. ⌜ now (answers .exit) ≡ run (now (script .entry)) (now (shelf .entry)) (now (answers .entry)) .answers ⌝ }
+    ensures { λ k. ⌜ k ≡ refusal-number (runs.refusal (now (script .entry)) (length (now (answers .entry)))) ⌝ }
+    ensures { λ k. ⌜ now (shelf .exit) ≡ shelf-after (runs.made (now (script .entry)) (length (now (answers .entry)))) (now (shelf .entry)) ⌝ }
+    ensures { λ k. ⌜ now (answers .exit) ≡ over (now (answers .entry)) 0 (slots (shelf-answers (runs.made (now (script .entry)) (length (now (answers .entry)))) (now (shelf .entry)))) ⌝ }
 {
-    let outcome = run(script, shelf, answers);
-    match outcome {
-        Running::Ran(_) => 0,
+    let answer = run(script, shelf, answers);
+    match answer {
+        Running::Ran => 0,
         Running::Malformed => 99,
         Running::TooFew => 15,
     }

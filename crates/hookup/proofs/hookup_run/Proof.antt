@@ -1,6 +1,6 @@
 use borrow.Author.Needs.{needs}
-use Rattle.batch.specs.Answers.{outcome-of}
-use Rattle.hookup.specs.Numbers.{run-number}
+use Rattle.batch.specs.Answers.{refusal-of}
+use Rattle.hookup.specs.Numbers.{refusal-number}
 use Rattle.hookup.proofs.Numbered.{as-number}
 use Rattle.hookup.proofs.hookup_run.Statement.{statement}
 use Rattle.hookup.proofs.hookup_run.Tie as tie
@@ -24,10 +24,10 @@ same-length-2 : tie.Need-same-length-2
 same-length-2 c = search needs
 
 returns : tie.Need-returns
-unfolding run-number outcome-of
+unfolding refusal-number refusal-of
 returns c =
-    let (outcome, buffers) = c .before .before .before .before .before .before .run .ensures in
-    (as-number outcome-of run-number (c .enum-told .given .1) outcome, buffers)
+    let (refused, buffers) = c .before .before .before .before .before .before .run .ensures in
+    (as-number refusal-of refusal-number (c .enum-told .given .1) refused, buffers)
 
 same-length-3 : tie.Need-same-length-3
 same-length-3 c = search needs
@@ -36,10 +36,10 @@ same-length-4 : tie.Need-same-length-4
 same-length-4 c = search needs
 
 returns-2 : tie.Need-returns-2
-unfolding run-number outcome-of
+unfolding refusal-number refusal-of
 returns-2 c =
-    let (outcome, buffers) = c .before .before .before .before .before .before .run .ensures in
-    (as-number outcome-of run-number (c .enum-told2 .given .1) outcome, buffers)
+    let (refused, buffers) = c .before .before .before .before .before .before .run .ensures in
+    (as-number refusal-of refusal-number (c .enum-told2 .given .1) refused, buffers)
 
 same-length-5 : tie.Need-same-length-5
 same-length-5 c = search needs
@@ -48,10 +48,10 @@ same-length-6 : tie.Need-same-length-6
 same-length-6 c = search needs
 
 returns-3 : tie.Need-returns-3
-unfolding run-number outcome-of
+unfolding refusal-number refusal-of
 returns-3 c =
-    let (outcome, buffers) = c .before .before .before .before .before .before .run .ensures in
-    (as-number outcome-of run-number (c .enum-told3 .given .1) outcome, buffers)
+    let (refused, buffers) = c .before .before .before .before .before .before .run .ensures in
+    (as-number refusal-of refusal-number (c .enum-told3 .given .1) refused, buffers)
 
 pub hookup-run-spec : {M : Type 1} → statement M
 hookup-run-spec =
