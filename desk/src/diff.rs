@@ -1,14 +1,35 @@
-//! The differences of two parts, called A and B, a line each. Names do not count, they only help to read.
+//! The differences of two parts, a line each. Names do not count, they only help to read; but where both tables have
+//! the same names in another order, states are compared by name.
 
 use std::collections::BTreeSet;
 
+use crate::numbering;
 use crate::part::{groups, states_of, Event, Observer, Part, Table};
 
 /// Of more pairs of states than this, only the number of the others is told.
 const MAX_PAIRS: usize = 10;
 
+/// One of the two tables, and what it is called in the lines.
+#[derive(Clone, Copy)]
+struct Side<'a> {
+    called: &'a str,
+    table: &'a Table,
+}
+
+impl<'a> Side<'a> {
+    fn part(self) -> &'a Part {
+        &self.table.part
+    }
+
+    /// States with this table's names.
+    fn states(self, list: &[usize]) -> String {
+        let words: Vec<String> = list.iter().map(|&s| self.table.state_words(s)).collect();
+        words.join(" ")
+    }
+}
+
 /// Both names where they differ, else the one there is.
-fn common_name(a: Option<&str>, b: Option<&str>) -> Option<String> {
+pub fn common_name(a: Option<&str>, b: Option<&str>) -> Option<String> {
     match (a, b) {
         (Some(a), Some(b)) if a != b => Some(format!("{a}/{b}")),
         (a, b) => a.or(b).map(str::to_string),
@@ -16,21 +37,15 @@ fn common_name(a: Option<&str>, b: Option<&str>) -> Option<String> {
 }
 
 /// `0`, or `0:idle` where the state has a name.
-fn state(a: &Table, b: &Table, s: usize) -> String {
-    match common_name(a.names.state(s), b.names.state(s)) {
+fn state(a: Side, b: Side, s: usize) -> String {
+    match common_name(a.table.names.state(s), b.table.names.state(s)) {
         Some(name) => format!("{s}:{name}"),
         None => s.to_string(),
     }
 }
 
-/// States of one table.
-fn states(table: &Table, list: &[usize]) -> String {
-    let words: Vec<String> = list.iter().map(|&s| state(table, table, s)).collect();
-    words.join(" ")
-}
-
 /// `event 7`, or `event 7 "send"` where the event has a name.
-fn event_title(a: &Table, b: &Table, identifier: u16) -> String {
+pub fn event_title(a: &Table, b: &Table, identifier: u16) -> String {
     match common_name(a.names.event(identifier), b.names.event(identifier)) {
         Some(name) => format!("event {identifier} \"{name}\""),
         None => format!("event {identifier}"),
@@ -38,33 +53,34 @@ fn event_title(a: &Table, b: &Table, identifier: u16) -> String {
 }
 
 /// How many states both parts have.
-fn shared_states(a: &Part, b: &Part) -> usize {
-    a.states.min(b.states)
+fn shared_states(a: Side, b: Side) -> usize {
+    a.part().states.min(b.part().states)
 }
 
-fn state_counts(a: &Part, b: &Part, lines: &mut Vec<String>) {
-    let (in_a, in_b) = (a.states, b.states);
+fn state_counts(a: Side, b: Side, lines: &mut Vec<String>) {
+    let (in_a, in_b) = (a.part().states, b.part().states);
     if in_a != in_b {
         let shared = match shared_states(a, b) {
             1 => "only state 0 is".to_string(),
             n => format!("only the states 0 to {} are", n - 1),
         };
-        lines.push(format!("states: A has {in_a}, B has {in_b}; {shared} compared below"));
+        lines.push(format!("states: {} has {in_a}, {} has {in_b}; {shared} compared below", a.called, b.called));
     }
 }
 
 /// Has one of the parts several observers? Then each line about an observer says which one it is.
-fn several(a: &Part, b: &Part) -> bool {
-    a.has_several_observers() || b.has_several_observers()
+fn several(a: Side, b: Side) -> bool {
+    a.part().has_several_observers() || b.part().has_several_observers()
 }
 
 /// The observers of A and B that are compared with one another: those of the same level or, where both parts have only
 /// one, these two.
-fn compared<'a>(a: &'a Part, b: &'a Part) -> Vec<(&'a Observer, &'a Observer)> {
+fn compared<'a>(a: Side<'a>, b: Side<'a>) -> Vec<(&'a Observer, &'a Observer)> {
+    let (in_a, in_b) = (&a.part().observers, &b.part().observers);
     if !several(a, b) {
-        return vec![(&a.observers[0], &b.observers[0])];
+        return vec![(&in_a[0], &in_b[0])];
     }
-    a.observers.iter().filter_map(|in_a| Some((in_a, b.observer(in_a.level)?))).collect()
+    in_a.iter().filter_map(|one| Some((one, b.part().observer(one.level)?))).collect()
 }
 
 /// `1 class`, `2 classes`
@@ -76,40 +92,42 @@ fn class_count(class: &str, column: &[u8]) -> String {
 }
 
 /// The observers of `one` whose level no observer of `other` has.
-fn own_observers(one: &Part, other: &Part, side: &str, lines: &mut Vec<String>) {
-    for observer in one.observers.iter().filter(|observer| other.observer(observer.level).is_none()) {
+fn own_observers(one: Side, other: Side, lines: &mut Vec<String>) {
+    for observer in one.part().observers.iter().filter(|observer| other.part().observer(observer.level).is_none()) {
         let mut counts = vec![class_count("class", &observer.classes)];
         counts.extend(observer.fine.iter().map(|fine| class_count("fine class", fine)));
         let level = observer.level.text_and_byte();
-        lines.push(format!("observer {level}: only in {side}: {}", counts.join(", ")));
+        lines.push(format!("observer {level}: only in {}: {}", one.called, counts.join(", ")));
     }
 }
 
-fn observers(a: &Part, b: &Part, lines: &mut Vec<String>) {
+fn observers(a: Side, b: Side, lines: &mut Vec<String>) {
     if several(a, b) {
-        own_observers(a, b, "A", lines);
-        own_observers(b, a, "B", lines);
+        own_observers(a, b, lines);
+        own_observers(b, a, lines);
         return;
     }
-    let (in_a, in_b) = (a.observers[0].level, b.observers[0].level);
+    let (in_a, in_b) = (a.part().observers[0].level, b.part().observers[0].level);
     if in_a != in_b {
-        lines.push(format!("observer: A {}, B {}", in_a.text_and_byte(), in_b.text_and_byte()));
+        let (level_a, level_b) = (in_a.text_and_byte(), in_b.text_and_byte());
+        lines.push(format!("observer: {} {level_a}, {} {level_b}", a.called, b.called));
     }
 }
 
-fn starts(a: &Table, b: &Table, lines: &mut Vec<String>) {
-    let (in_a, in_b) = (a.part.start, b.part.start);
+fn starts(a: Side, b: Side, lines: &mut Vec<String>) {
+    let (in_a, in_b) = (a.part().start, b.part().start);
     if in_a != in_b {
-        lines.push(format!("start: A {}, B {}", state(a, a, in_a), state(b, b, in_b)));
+        let (state_a, state_b) = (a.table.state_words(in_a), b.table.state_words(in_b));
+        lines.push(format!("start: {} {state_a}, {} {state_b}", a.called, b.called));
     }
 }
 
-/// The classes of `one`, a column of the table, that `other` does not have.
-fn own_classes(table: &Table, one: &[u8], other: &[u8]) -> Option<String> {
+/// The classes of `one`, a column of its table, that `other` does not have.
+fn own_classes(side: Side, one: &[u8], other: &[u8]) -> Option<String> {
     let others = groups(other);
     let mut own = groups(one);
     own.retain(|group| !others.contains(group));
-    let words: Vec<String> = own.iter().map(|group| format!("{{{}}}", states(table, group))).collect();
+    let words: Vec<String> = own.iter().map(|group| side.table.states_words(group)).collect();
     (!words.is_empty()).then(|| words.join(" "))
 }
 
@@ -127,7 +145,7 @@ fn pairs(one: &[u8], other: &[u8]) -> Vec<[usize; 2]> {
 }
 
 /// Some pairs in words: the first ones, then how many more there are.
-fn pair_words(a: &Table, b: &Table, pairs: &[[usize; 2]]) -> Option<String> {
+fn pair_words(a: Side, b: Side, pairs: &[[usize; 2]]) -> Option<String> {
     let shown = pairs.iter().take(MAX_PAIRS);
     let mut words: Vec<String> = shown.map(|&[s, t]| format!("{} with {}", state(a, b, s), state(a, b, t))).collect();
     if pairs.len() > MAX_PAIRS {
@@ -137,14 +155,15 @@ fn pair_words(a: &Table, b: &Table, pairs: &[[usize; 2]]) -> Option<String> {
 }
 
 /// A grouping of A and one of B, of the states that both have; `title` begins each line.
-fn grouping(a: (&Table, &[u8]), b: (&Table, &[u8]), title: &str, lines: &mut Vec<String>) {
-    let n = shared_states(&a.0.part, &b.0.part);
+fn grouping(a: (Side, &[u8]), b: (Side, &[u8]), title: &str, lines: &mut Vec<String>) {
+    let n = shared_states(a.0, b.0);
     let (in_a, in_b) = (&a.1[..n], &b.1[..n]);
+    let (called_a, called_b) = (a.0.called, b.0.called);
     let differences = [
-        ("classes only in A", own_classes(a.0, in_a, in_b)),
-        ("classes only in B", own_classes(b.0, in_b, in_a)),
-        ("together in A, apart in B", pair_words(a.0, b.0, &pairs(in_a, in_b))),
-        ("together in B, apart in A", pair_words(a.0, b.0, &pairs(in_b, in_a))),
+        (format!("classes only in {called_a}"), own_classes(a.0, in_a, in_b)),
+        (format!("classes only in {called_b}"), own_classes(b.0, in_b, in_a)),
+        (format!("together in {called_a}, apart in {called_b}"), pair_words(a.0, b.0, &pairs(in_a, in_b))),
+        (format!("together in {called_b}, apart in {called_a}"), pair_words(a.0, b.0, &pairs(in_b, in_a))),
     ];
     for (which, words) in differences {
         lines.extend(words.map(|words| format!("{title}: {which}: {words}")));
@@ -152,18 +171,19 @@ fn grouping(a: (&Table, &[u8]), b: (&Table, &[u8]), title: &str, lines: &mut Vec
 }
 
 /// The fine groupings, where a part is limited; that only one of the parts is so is a line of its own.
-fn fine_grouping(a: (&Table, &Observer), b: (&Table, &Observer), title: &str, lines: &mut Vec<String>) {
+fn fine_grouping(a: (Side, &Observer), b: (Side, &Observer), title: &str, lines: &mut Vec<String>) {
+    let only = |side: Side, fine| format!("{title}: only in {}: {}", side.called, class_count("class", fine));
     match (&a.1.fine, &b.1.fine) {
         (Some(in_a), Some(in_b)) => grouping((a.0, in_a), (b.0, in_b), title, lines),
-        (Some(in_a), None) => lines.push(format!("{title}: only in A: {}", class_count("class", in_a))),
-        (None, Some(in_b)) => lines.push(format!("{title}: only in B: {}", class_count("class", in_b))),
+        (Some(in_a), None) => lines.push(only(a.0, in_a)),
+        (None, Some(in_b)) => lines.push(only(b.0, in_b)),
         (None, None) => {}
     }
 }
 
-fn groupings(a: &Table, b: &Table, lines: &mut Vec<String>) {
-    for (in_a, in_b) in compared(&a.part, &b.part) {
-        let title = match several(&a.part, &b.part) {
+fn groupings(a: Side, b: Side, lines: &mut Vec<String>) {
+    for (in_a, in_b) in compared(a, b) {
+        let title = match several(a, b) {
             true => format!("grouping for the observer {}", in_a.level.text_and_byte()),
             false => "grouping".to_string(),
         };
@@ -172,68 +192,132 @@ fn groupings(a: &Table, b: &Table, lines: &mut Vec<String>) {
     }
 }
 
-fn only_in(side: &str, title: &str, event: &Event, lines: &mut Vec<String>) {
+fn only_in(side: Side, title: &str, event: &Event, lines: &mut Vec<String>) {
     let (kind, level) = (event.kind.word(), event.level.text_and_byte());
     let steps = match event.step_count() {
         1 => "1 step".to_string(),
         count => format!("{count} steps"),
     };
-    lines.push(format!("{title}: only in {side}: {kind}, {level}, {steps}"));
+    lines.push(format!("{title}: only in {}: {kind}, {level}, {steps}", side.called));
 }
 
 /// `only A leads to 1 2`, or that there is no step at all; nothing where the other row has them all.
-fn own_steps(side: &str, table: &Table, row: u64, other: u64) -> Option<String> {
+fn own_steps(side: Side, row: u64, other: u64) -> Option<String> {
     if row == 0 {
-        return Some(format!("{side} has no step"));
+        return Some(format!("{} has no step", side.called));
     }
     let own = states_of(row & !other);
-    (!own.is_empty()).then(|| format!("only {side} leads to {}", states(table, &own)))
+    (!own.is_empty()).then(|| format!("only {} leads to {}", side.called, side.states(&own)))
 }
 
-fn steps(a: (&Table, &Event), b: (&Table, &Event), title: &str, lines: &mut Vec<String>) {
+fn steps(a: (Side, &Event), b: (Side, &Event), title: &str, lines: &mut Vec<String>) {
     for (s, (&in_a, &in_b)) in a.1.rows.iter().zip(&b.1.rows).enumerate() {
         if in_a != in_b {
-            let words = [own_steps("A", a.0, in_a, in_b), own_steps("B", b.0, in_b, in_a)];
+            let words = [own_steps(a.0, in_a, in_b), own_steps(b.0, in_b, in_a)];
             let words: Vec<String> = words.into_iter().flatten().collect();
             lines.push(format!("{title}, from {}: {}", state(a.0, b.0, s), words.join("; ")));
         }
     }
 }
 
-fn both(a: (&Table, &Event), b: (&Table, &Event), title: &str, lines: &mut Vec<String>) {
+fn both(a: (Side, &Event), b: (Side, &Event), title: &str, lines: &mut Vec<String>) {
     let (in_a, in_b) = (a.1, b.1);
+    let (called_a, called_b) = (a.0.called, b.0.called);
     if in_a.kind != in_b.kind {
-        lines.push(format!("{title}: kind: A {}, B {}", in_a.kind.word(), in_b.kind.word()));
+        lines.push(format!("{title}: kind: {called_a} {}, {called_b} {}", in_a.kind.word(), in_b.kind.word()));
     }
     if in_a.level != in_b.level {
         let (level_a, level_b) = (in_a.level.text_and_byte(), in_b.level.text_and_byte());
-        lines.push(format!("{title}: level: A {level_a}, B {level_b}"));
+        lines.push(format!("{title}: level: {called_a} {level_a}, {called_b} {level_b}"));
     }
     steps(a, b, title, lines);
 }
 
-fn events(a: &Table, b: &Table, lines: &mut Vec<String>) {
-    let all: BTreeSet<u16> = a.part.events.iter().chain(&b.part.events).map(|event| event.identifier).collect();
+fn events(a: Side, b: Side, lines: &mut Vec<String>) {
+    let all: BTreeSet<u16> = a.part().events.iter().chain(&b.part().events).map(|event| event.identifier).collect();
     for identifier in all {
-        let title = event_title(a, b, identifier);
-        match (a.part.event(identifier), b.part.event(identifier)) {
+        let title = event_title(a.table, b.table, identifier);
+        match (a.part().event(identifier), b.part().event(identifier)) {
             (Some(in_a), Some(in_b)) => both((a, in_a), (b, in_b), &title, lines),
-            (Some(in_a), None) => only_in("A", &title, in_a, lines),
-            (None, Some(in_b)) => only_in("B", &title, in_b, lines),
+            (Some(in_a), None) => only_in(a, &title, in_a, lines),
+            (None, Some(in_b)) => only_in(b, &title, in_b, lines),
             (None, None) => {}
         }
     }
 }
 
-/// All differences; none exactly if the two parts are the same.
-pub fn differences(a: &Table, b: &Table) -> Vec<String> {
+/// What is compared: all, or all but the observers and their groupings.
+#[derive(Clone, Copy, PartialEq, Eq)]
+enum Scope {
+    All,
+    WithoutObservers,
+}
+
+/// The differences by the numbers of the states.
+fn by_number(a: Side, b: Side, scope: Scope) -> Vec<String> {
     let mut lines = Vec::new();
-    state_counts(&a.part, &b.part, &mut lines);
-    observers(&a.part, &b.part, &mut lines);
+    state_counts(a, b, &mut lines);
+    if scope == Scope::All {
+        observers(a, b, &mut lines);
+    }
     starts(a, b, &mut lines);
-    groupings(a, b, &mut lines);
+    if scope == Scope::All {
+        groupings(a, b, &mut lines);
+    }
     events(a, b, &mut lines);
     lines
+}
+
+/// The states that have other numbers in B; state i of A is state `from[i]` there.
+fn numbering_line(a: Side, b: Side, from: &[usize]) -> String {
+    let moved = from.iter().enumerate().filter(|(s, in_b)| s != *in_b);
+    let words: Vec<String> =
+        moved.map(|(s, in_b)| format!("{} is {in_b} in {}", a.table.state_words(s), b.called)).collect();
+    format!("numbering: the states have other numbers in {}: {}", b.called, words.join(", "))
+}
+
+/// The differences and, where they are told by the states' names and not by their numbers, the numbering.
+struct Comparison {
+    numbering: Option<String>,
+    lines: Vec<String>,
+}
+
+impl Comparison {
+    fn told(self) -> Vec<String> {
+        self.numbering.into_iter().chain(self.lines).collect()
+    }
+}
+
+/// Compares by number; where that gives differences and the states have the same names in another order, by name, with
+/// the numbers of A.
+fn compare(a: Side, b: Side, scope: Scope) -> Comparison {
+    let lines = by_number(a, b, scope);
+    let in_another_order = |from: &Vec<usize>| from.iter().enumerate().any(|(s, &in_b)| s != in_b);
+    match numbering::by_names(&a.table.names, &b.table.names).filter(in_another_order) {
+        Some(from) if !lines.is_empty() => {
+            let renumbered = numbering::table(b.table, &from);
+            let lines = by_number(a, Side { table: &renumbered, ..b }, scope);
+            Comparison { numbering: Some(numbering_line(a, b, &from)), lines }
+        }
+        _ => Comparison { numbering: None, lines },
+    }
+}
+
+/// The differences of states, start, events and steps alone, of two tables that are called so; none exactly if only the
+/// observers and their groupings may differ.
+pub fn without_observers(a: (&str, &Table), b: (&str, &Table)) -> Vec<String> {
+    let [a, b] = [a, b].map(|(called, table)| Side { called, table });
+    compare(a, b, Scope::WithoutObservers).told()
+}
+
+/// All differences of two tables, called A and B; none exactly if the two parts are the same.
+pub fn differences(a: &Table, b: &Table) -> Vec<String> {
+    let [a, b] = [("A", a), ("B", b)].map(|(called, table)| Side { called, table });
+    let mut comparison = compare(a, b, Scope::All);
+    if comparison.numbering.is_some() && comparison.lines.is_empty() {
+        comparison.lines.push("the same part but for the numbering of the states".to_string());
+    }
+    comparison.told()
 }
 
 #[cfg(test)]
@@ -328,6 +412,67 @@ event 12 internal rank 3 compartments 1 5
         let renamed = renamed.replace("sent", "gone");
         let lines = differences(&table(A), &table(&renamed));
         assert_eq!(lines[2], "grouping: together in A, apart in B: 0:idle with 1:sent/gone");
+    }
+
+    /// What is said of A and of a table with the same names in another order and one piece of its text replaced.
+    fn turned(old: &str, new: &str) -> Vec<String> {
+        let text = A.replace("states idle sent full", "states full idle sent");
+        assert!(text.contains(old), "{old}");
+        differences(&table(A), &table(&text.replacen(old, new, 1)))
+    }
+
+    const NUMBERING: &str =
+        "numbering: the states have other numbers in B: 0:idle is 1 in B, 1:sent is 2 in B, 2:full is 0 in B";
+
+    #[test]
+    fn the_same_names_in_another_order() {
+        assert_eq!(turned("part", "part"), [NUMBERING, "the same part but for the numbering of the states"]);
+        let swapped = table(&A.replace("states idle sent full", "states idle full sent"));
+        let numbering = "numbering: the states have other numbers in B: 1:sent is 2 in B, 2:full is 1 in B";
+        assert_eq!(differences(&table(A), &swapped)[0], numbering);
+        let other = "event 7 \"send\", from 1:sent: only A leads to 1:sent; only B leads to 2:full";
+        assert_eq!(turned("sent -> sent", "sent -> full"), [NUMBERING, other]);
+        assert_eq!(turned("start idle", "start 0"), [NUMBERING, "start: A 0:idle, B 2:full"]);
+        let grouping = "grouping: classes only in B: {0:idle} {1:sent}";
+        assert_eq!(turned("{idle sent} {full}", "{idle} {sent} {full}")[2], grouping);
+    }
+
+    /// Another set of names, and the names of one table alone, are no numbering; nor is a part that is the same by its
+    /// numbers.
+    #[test]
+    fn no_numbering() {
+        let lines = differences(&table(A), &table(&A.replace("full", "busy").replace("start idle", "start sent")));
+        assert_eq!(lines, ["start: A 0:idle, B 1:sent"]);
+        let turned = A.replace("states idle sent full", "states full idle sent");
+        let unnamed = Table::unnamed(table(&turned).part);
+        let lines = differences(&table(A), &unnamed);
+        assert_eq!(lines[0], "start: A 0:idle, B 1");
+        let by_numbers = "part\nobserver rank 0 compartments none\nstates a b\nstart 0\nclasses {0 1}\n";
+        let renamed = by_numbers.replace("states a b", "states b a");
+        assert_eq!(differences(&table(by_numbers), &table(&renamed)), [""; 0]);
+    }
+
+    #[test]
+    fn all_but_the_observers() {
+        let lines = |old: &str, new: &str| {
+            assert!(A.contains(old), "{old}");
+            without_observers(("A", &table(A)), ("C", &table(&A.replacen(old, new, 1))))
+        };
+        assert_eq!(lines("rank 1 compartments 0 3", "rank 2 compartments none"), [""; 0]);
+        assert_eq!(lines("{idle sent} {full}", "{idle} {sent} {full}"), [""; 0]);
+        assert_eq!(lines("{idle sent} {full}", "{idle sent} {full}\nfine {idle} {sent} {full}"), [""; 0]);
+        assert_eq!(lines("start idle", "start full"), ["start: A 0:idle, C 2:full"]);
+        let level = "event 9: level: A rank 0 compartments none (0x00), C rank 1 compartments 5 (0x60)";
+        assert_eq!(lines("rank 0 compartments none", "rank 1 compartments 5"), [level]);
+        let none = "event 7 \"send\", from 1:sent: only A leads to 1:sent; C has no step";
+        assert_eq!(lines("  sent -> sent\n", ""), [none]);
+        let only = "event 10: only in C: output, rank 0 compartments none (0x00), 0 steps";
+        assert_eq!(lines("event 9", "event 10")[1], only);
+        let turned = lines("states idle sent full", "states full idle sent");
+        assert_eq!(turned, [NUMBERING.replace('B', "C")]);
+        let one = "part\nobserver rank 0 compartments none\nstates 1\nstart 0\nclasses {0}\n";
+        let fewer = without_observers(("B", &table(A)), ("D", &table(one)));
+        assert_eq!(fewer[0], "states: B has 3, D has 1; only state 0 is compared below");
     }
 
     #[test]

@@ -1,7 +1,7 @@
 //! A part as its record describes it: what all its observers have in common, and a list of the observers. Then the
 //! names that only a table has.
 
-use std::collections::{BTreeMap, BTreeSet};
+use std::collections::BTreeMap;
 
 use crate::level::Level;
 
@@ -63,13 +63,11 @@ impl Observer {
         self.classes[s] == self.classes[t]
     }
 
-    /// The fine classes; without a refinement they are the classes.
-    fn finest(&self) -> &[u8] {
-        self.fine.as_ref().unwrap_or(&self.classes)
-    }
-
+    /// Are they in one fine class? Without a refinement the fine classes are the classes.
+    #[cfg(test)]
     pub fn same_fine_class(&self, s: usize, t: usize) -> bool {
-        self.finest()[s] == self.finest()[t]
+        let finest = self.fine.as_ref().unwrap_or(&self.classes);
+        finest[s] == finest[t]
     }
 
     /// `class`, or `coarse class` where there are fine ones too.
@@ -78,12 +76,6 @@ impl Observer {
             Some(_) => "coarse class",
             None => "class",
         }
-    }
-
-    /// The limit of a part that passes: the largest number of fine classes in one class.
-    pub fn limit(&self) -> usize {
-        let fine_in = |group: &Vec<usize>| -> BTreeSet<u8> { group.iter().map(|&s| self.finest()[s]).collect() };
-        groups(&self.classes).iter().map(|group| fine_in(group).len()).max().unwrap_or(0)
     }
 
     /// Is the event low for this observer? Needed for the words of a verdict and for drawings only, as is what it sees.
@@ -190,6 +182,35 @@ impl Table {
     pub fn unnamed(part: Part) -> Table {
         Table { part, names: Names::default() }
     }
+
+    /// A state by its number and, where it has one, its name: `0:idle`.
+    pub fn state_words(&self, s: usize) -> String {
+        match self.names.state(s) {
+            Some(name) => format!("{s}:{name}"),
+            None => s.to_string(),
+        }
+    }
+
+    /// `{0:idle 1:sent}`
+    pub fn states_words(&self, states: &[usize]) -> String {
+        let words: Vec<String> = states.iter().map(|&s| self.state_words(s)).collect();
+        format!("{{{}}}", words.join(" "))
+    }
+
+    /// An event by its identifier and, where it has one, its name: `7 "send"`.
+    pub fn event_words(&self, identifier: u16) -> String {
+        match self.names.event(identifier) {
+            Some(name) => format!("{identifier} \"{name}\""),
+            None => identifier.to_string(),
+        }
+    }
+}
+
+/// A table, and what it is called in a sentence: its file, or `part 0`.
+#[derive(Clone, Copy)]
+pub struct Titled<'a> {
+    pub title: &'a str,
+    pub table: &'a Table,
 }
 
 #[cfg(test)]
@@ -209,16 +230,6 @@ mod tests {
 
     fn limited(classes: &[u8], fine: &[u8]) -> Observer {
         Observer { level: Level(0), classes: classes.to_vec(), fine: Some(fine.to_vec()) }
-    }
-
-    /// The largest number in one class; not that of all fine classes, nor that of classes, nor of states in one.
-    #[test]
-    fn limits() {
-        assert_eq!(limited(&[0, 0, 1, 1, 1, 1], &[0, 0, 1, 1, 2, 2]).limit(), 2);
-        assert_eq!(limited(&[0, 1, 0, 1, 0, 2], &[0, 1, 2, 1, 3, 4]).limit(), 3);
-        assert_eq!(limited(&[0, 1, 2, 0], &[0, 1, 2, 0]).limit(), 1);
-        assert_eq!(limited(&[0, 0, 0], &[0, 1, 2]).limit(), 3);
-        assert_eq!(Observer { level: Level(0), classes: vec![0, 0, 1], fine: None }.limit(), 1);
     }
 
     #[test]

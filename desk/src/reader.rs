@@ -5,7 +5,7 @@ use crate::level::{Level, MAX_COMPARTMENT, MAX_RANK};
 use crate::part::{
     by_first_appearance, Event, Kind, Names, Observer, Part, Table, MAX_EVENTS, MAX_OBSERVERS, MAX_STATES,
 };
-use crate::tokens::{not_text, split, Fault, Place, Token, What};
+use crate::tokens::{fault, not_text, split, Fault, Place, Token, What};
 
 /// The words of the form. None of them can name a state.
 const KEYWORDS: [&str; 13] = [
@@ -72,20 +72,13 @@ struct States {
 
 impl States {
     fn find(&self, word: &str) -> Option<usize> {
-        match is_number(word) {
-            true => number_up_to(word, self.count - 1),
-            false => self.names.iter().position(|name| name == word),
-        }
+        find_state(word, self.count, &self.names)
     }
 }
 
 struct Reader {
     tokens: Vec<Token>,
     next: usize,
-}
-
-fn fault<T>(place: Place, message: String) -> Result<T, Fault> {
-    Err(Fault { place, message })
 }
 
 /// A token that is not what was expected.
@@ -100,12 +93,21 @@ fn is_number(word: &str) -> bool {
     word.bytes().all(|byte| byte.is_ascii_digit())
 }
 
+/// Can the word name a state? With a dot in it, it can.
 fn is_name(word: &str) -> bool {
-    !word.starts_with(|c: char| c.is_ascii_digit()) && !KEYWORDS.contains(&word)
+    word.contains('.') || !word.starts_with(|c: char| c.is_ascii_digit()) && !KEYWORDS.contains(&word)
+}
+
+/// The state with this number or this name, of so many states with these names.
+pub fn find_state(word: &str, count: usize, names: &[String]) -> Option<usize> {
+    match is_number(word) {
+        true => number_up_to(word, count - 1),
+        false => names.iter().position(|name| name == word),
+    }
 }
 
 /// A number of any length that is at most `most`.
-fn number_up_to(word: &str, most: usize) -> Option<usize> {
+pub(crate) fn number_up_to(word: &str, most: usize) -> Option<usize> {
     if !is_number(word) {
         return None;
     }
@@ -683,6 +685,38 @@ event 7 \"send it\" input rank 2 compartments none
         assert_eq!(said(names, "idle sent idle"), "4:18: 'idle' already names state 0, expected another name");
     }
 
+    /// With a dot a piece may be a number or a word of the form; a number alone stays the number of a state.
+    #[test]
+    fn names_with_dots() {
+        let text = "part\nobserver rank 0 compartments none\nstates idle.sent 0.1\n  1.0 event.7\n 7a.x\nstart 0.1\n\
+                    classes {idle.sent 1} {1.0 event.7 4}\n\
+                    event 7 input rank 0 compartments none\n 0.1->1.0\n event.7 -> 7a.x 0\n";
+        let Table { part, names } = parse(text).unwrap();
+        assert_eq!(names.states, ["idle.sent", "0.1", "1.0", "event.7", "7a.x"]);
+        assert_eq!((part.states, part.start, part.events[0].rows.clone()), (5, 1, vec![0, 4, 0, 17, 0]));
+        assert_eq!(part.observers[0].classes, [0, 0, 1, 1, 1]);
+    }
+
+    #[test]
+    fn faults_of_names_with_dots() {
+        let names = "idle sent full ";
+        let start = "expected a state's name or a line that begins with 'start', found";
+        assert_eq!(said(names, "0.a 7a"), format!("4:12: {start} '7a'"));
+        assert_eq!(said(names, "0.a 7"), format!("4:12: {start} '7'"));
+        assert_eq!(said(names, "7a"), "4:8: expected a number of states or a state's name, found '7a'");
+        assert_eq!(said(names, "0.1 0.1"), "4:12: '0.1' already names state 0, expected another name");
+        let dots = "expected a letter, a digit or '_' before and behind each '.', found";
+        assert_eq!(said(names, "idle .a"), format!("4:13: {dots} '.a'"));
+        assert_eq!(said(names, "a..b"), format!("4:8: {dots} 'a..b'"));
+        assert_eq!(said("start idle", "start idle."), format!("5:7: {dots} 'idle.'"));
+        let state = "expected a state from 0 to 2 or a state's name, found";
+        assert_eq!(said("start idle", "start 0.1"), format!("5:7: {state} '0.1'"));
+        assert_eq!(said("rank 1", "rank 1.0"), "3:15: expected a rank from 0 to 3, found '1.0'");
+        assert_eq!(said("part", "part.a"), "2:1: expected 'part', found 'part.a'");
+        let unnamed = "part\nobserver rank 0 compartments none\nstates 2\nstart 0.1\n";
+        assert_eq!(parse(unnamed).unwrap_err(), "4:7: expected a state from 0 to 1, found '0.1'");
+    }
+
     /// 64 names are read, the 65th is a fault at its place.
     #[test]
     fn the_limit_of_names() {
@@ -946,7 +980,7 @@ event 7 \"send it\" input rank 2 compartments none
     fn faults_of_single_characters() {
         let sorts = "expected a word, a number, '{', '}', '->' or '\"', found";
         assert_eq!(said("start idle", "start: idle"), format!("5:6: {sorts} ':'"));
-        let letters = "5:7: expected only the letters a to z and A to Z, digits and '_', found 'idlé'";
+        let letters = "5:7: expected only the letters a to z and A to Z, digits, '_' and '.', found 'idlé'";
         assert_eq!(said("start idle", "start idlé"), letters);
         assert_eq!(said("classes", "@classes"), format!("6:1: {sorts} '@'"));
         let quote = "7:9: expected '\"' at the end of this name, found the end of the line";
@@ -998,7 +1032,8 @@ event 7 \"send it\" input rank 2 compartments none
             }
             match read(&bytes) {
                 Ok(table) => {
-                    let text = crate::writer::write(&table.part);
+                    assert_eq!(parse(&crate::writer::write(&table)), Ok(table.clone()));
+                    let text = crate::writer::write(&Table::unnamed(table.part.clone()));
                     assert_eq!(parse(&text).unwrap().part, table.part);
                     assert_eq!(record::read(&record::write(&table.part)), Ok(table.part));
                     parts += 1;

@@ -119,7 +119,7 @@ impl Layout {
 }
 
 /// `1 state`, `2 states`.
-fn counted(number: usize, thing: &str) -> String {
+pub(crate) fn counted(number: usize, thing: &str) -> String {
     format!("{number} {thing}{}", if number == 1 { "" } else { "s" })
 }
 

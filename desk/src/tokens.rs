@@ -21,9 +21,14 @@ impl fmt::Display for Fault {
     }
 }
 
+/// A fault as the outcome of reading something.
+pub(crate) fn fault<T>(place: Place, message: String) -> Result<T, Fault> {
+    Err(Fault { place, message })
+}
+
 #[derive(Clone, PartialEq, Eq, Debug)]
 pub enum What {
-    /// ASCII letters, digits and `_`: a keyword, a number or a name.
+    /// Pieces of ASCII letters, digits and `_`, with single dots between them: a keyword, a number or a name.
     Word(String),
     /// A name in quotes, without them.
     Quoted(String),
@@ -68,7 +73,7 @@ fn hidden(c: char) -> bool {
 }
 
 fn in_word(c: char) -> bool {
-    c.is_alphanumeric() || c == '_'
+    c.is_alphanumeric() || c == '_' || c == '.'
 }
 
 /// One line's characters and the next to read.
@@ -110,12 +115,16 @@ impl Line<'_> {
         What::Bad("expected '->', found '-'".to_string())
     }
 
-    /// A word; letters of other alphabets are taken with it, to name the whole word.
+    /// A word; letters of other alphabets and dots at any place are taken with it, to name the whole word.
     fn word(&mut self) -> What {
         let word = self.take(in_word);
-        match word.is_ascii() {
-            true => What::Word(word),
-            false => What::Bad(format!("expected only the letters a to z and A to Z, digits and '_', found '{word}'")),
+        if !word.is_ascii() {
+            let letters = "expected only the letters a to z and A to Z, digits, '_' and '.'";
+            return What::Bad(format!("{letters}, found '{word}'"));
+        }
+        match word.split('.').any(str::is_empty) {
+            true => What::Bad(format!("expected a letter, a digit or '_' before and behind each '.', found '{word}'")),
+            false => What::Word(word),
         }
     }
 
@@ -147,7 +156,7 @@ impl Line<'_> {
 }
 
 /// The first character of a line that may not stand in a table.
-fn hidden_in(chars: &[char]) -> Option<(usize, String)> {
+pub(crate) fn hidden_in(chars: &[char]) -> Option<(usize, String)> {
     let at = chars.iter().position(|&c| hidden(c))?;
     Some((at, format!("expected visible text, found the control character U+{:04X}", chars[at] as u32)))
 }
@@ -174,7 +183,7 @@ fn line_tokens(number: usize, text: &str, tokens: &mut Vec<Token>) {
 }
 
 /// The place behind a text's last character.
-fn end_of(text: &str) -> Place {
+pub(crate) fn end_of(text: &str) -> Place {
     let last = text.rsplit('\n').next().unwrap_or("");
     Place { line: text.matches('\n').count() + 1, column: last.chars().count() + 1 }
 }
@@ -226,6 +235,21 @@ mod tests {
             at(5, 1, What::FileEnd),
         ];
         assert_eq!(tokens, expected);
+    }
+
+    /// Dots stand between pieces; anywhere else the whole word is no token.
+    #[test]
+    fn words_with_dots() {
+        for good in ["idle.sent", "0.sent", "0.1", "a.b.c", "7a._", "_.9", "part.rank"] {
+            assert_eq!(split(good)[0], at(1, 1, word(good)));
+        }
+        let places = split("a.b->0.1{x.y}");
+        let words = [at(1, 1, word("a.b")), at(1, 6, word("0.1")), at(1, 10, word("x.y"))];
+        assert!(words.iter().all(|word| places.contains(word)), "{places:?}");
+        for bad in [".a", "a.", "a..b", ".", "..", ".0", "0.1."] {
+            let message = format!("expected a letter, a digit or '_' before and behind each '.', found '{bad}'");
+            assert_eq!(split(&format!("x {bad} y"))[1], at(1, 3, What::Bad(message)));
+        }
     }
 
     #[test]

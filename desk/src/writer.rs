@@ -1,54 +1,78 @@
-//! Writes a part as canonical text: numbers for states, classes by their smallest state, all else ascending.
+//! Writes a table as canonical text: states by their names or, where they have none, their numbers; classes by their
+//! smallest state, all else ascending.
 
-use crate::part::{groups, states_of, Event, Part};
+use crate::part::{groups, states_of, Event, Table};
 
-/// Classes that make a longer line stand one to a line.
+/// No line is longer, its end counted, where it can be broken.
 const WIDTH: usize = 80;
 
-fn joined(states: &[usize]) -> String {
-    let words: Vec<String> = states.iter().map(usize::to_string).collect();
+/// A state by its name or, where it has none, its number.
+pub fn state(table: &Table, s: usize) -> String {
+    table.names.state(s).map_or_else(|| s.to_string(), str::to_string)
+}
+
+fn states(table: &Table, list: &[usize]) -> String {
+    let words: Vec<String> = list.iter().map(|&s| state(table, s)).collect();
     words.join(" ")
 }
 
-/// `{0 1}`
-pub fn class(states: &[usize]) -> String {
-    format!("{{{}}}", joined(states))
+/// Words behind a keyword on one line, where that is short enough.
+fn one_line(keyword: &str, words: &[String]) -> Option<String> {
+    let line = format!("{keyword} {}\n", words.join(" "));
+    (line.len() <= WIDTH || words.len() == 1).then_some(line)
 }
 
-/// The classes of a column behind its keyword.
-fn classes(keyword: &str, column: &[u8]) -> String {
-    let groups: Vec<String> = groups(column).iter().map(|group| class(group)).collect();
-    let line = format!("{keyword} {}\n", groups.join(" "));
-    if line.len() <= WIDTH || groups.len() == 1 {
-        return line;
-    }
-    format!("{keyword}\n  {}\n", groups.join("\n  "))
-}
-
-fn event(event: &Event) -> String {
-    let mut text = format!("event {} {} {}\n", event.identifier, event.kind.word(), event.level.text());
-    for (s, &row) in event.rows.iter().enumerate() {
-        if row != 0 {
-            text.push_str(&format!("  {s} -> {}\n", joined(&states_of(row))));
+/// Words on lines of their own behind a keyword, as many to a line as it has room for.
+fn filled(keyword: &str, words: &[String]) -> String {
+    let mut lines = vec![keyword.to_string()];
+    let mut room = 0;
+    for word in words {
+        match lines.last_mut().filter(|_| word.len() < room) {
+            Some(line) => line.extend([" ", word]),
+            None => lines.push(format!("  {word}")),
         }
+        room = WIDTH.saturating_sub(lines[lines.len() - 1].len() + 1);
+    }
+    lines.join("\n") + "\n"
+}
+
+/// The names of the states, or how many there are.
+fn state_line(table: &Table) -> String {
+    let names = &table.names.states;
+    if names.is_empty() {
+        return format!("states {}\n", table.part.states);
+    }
+    one_line("states", names).unwrap_or_else(|| filled("states", names))
+}
+
+/// The classes of a column behind its keyword, one to a line where they do not stand on one.
+fn classes(table: &Table, keyword: &str, column: &[u8]) -> String {
+    let groups: Vec<String> = groups(column).iter().map(|group| format!("{{{}}}", states(table, group))).collect();
+    one_line(keyword, &groups).unwrap_or_else(|| format!("{keyword}\n  {}\n", groups.join("\n  ")))
+}
+
+fn event(table: &Table, event: &Event) -> String {
+    let (title, kind, level) = (table.event_words(event.identifier), event.kind.word(), event.level.text());
+    let mut text = format!("event {title} {kind} {level}\n");
+    for (s, &row) in event.rows.iter().enumerate().filter(|(_, row)| **row != 0) {
+        text.push_str(&format!("  {} -> {}\n", state(table, s), states(table, &states_of(row))));
     }
     text
 }
 
-/// The canonical text of a part.
-pub fn write(part: &Part) -> String {
+/// The canonical text of a table, with its names. Comments are no part of a table.
+pub fn write(table: &Table) -> String {
     let mut text = String::from("part\n");
-    for (i, observer) in part.observers.iter().enumerate() {
+    for (i, observer) in table.part.observers.iter().enumerate() {
         text.push_str(&format!("observer {}\n", observer.level.text()));
         if i == 0 {
-            text.push_str(&format!("states {}\nstart {}\n", part.states, part.start));
+            text.push_str(&state_line(table));
+            text.push_str(&format!("start {}\n", state(table, table.part.start)));
         }
-        text.push_str(&classes("classes", &observer.classes));
-        text.extend(observer.fine.iter().map(|fine| classes("fine", fine)));
+        text.push_str(&classes(table, "classes", &observer.classes));
+        text.extend(observer.fine.iter().map(|fine| classes(table, "fine", fine)));
     }
-    for one in &part.events {
-        text.push_str(&event(one));
-    }
+    text.extend(table.part.events.iter().map(|one| event(table, one)));
     text
 }
 
@@ -58,6 +82,7 @@ mod tests {
     use std::path::PathBuf;
 
     use super::*;
+    use crate::part::{Names, Part};
     use crate::random::{self, Rng};
     use crate::{reader, record};
 
@@ -138,12 +163,28 @@ event 2 output rank 0 compartments none
         0, 0, 0, 0, 0, 0, 0, 0, // 2 from 1
     ];
 
+    fn read_table(text: &str) -> Table {
+        reader::read(text.as_bytes()).unwrap()
+    }
+
     fn read(text: &str) -> Part {
-        reader::read(text.as_bytes()).unwrap().part
+        read_table(text).part
+    }
+
+    /// The text of a part without names.
+    fn write(part: &Part) -> String {
+        super::write(&Table::unnamed(part.clone()))
     }
 
     fn read_record(bytes: &[u8]) -> Part {
         record::read(bytes).unwrap()
+    }
+
+    /// A table with names comes back from its text, and the text from that.
+    fn named_round_trip(table: &Table) {
+        let text = super::write(table);
+        assert_eq!(&read_table(&text), table);
+        assert_eq!(super::write(&read_table(&text)), text);
     }
 
     /// Text and back, and from there to the same bytes.
@@ -169,6 +210,79 @@ event 2 output rank 0 compartments none
         let named =
             named.replace("0 -> 1 2\n  1 -> 1\n", "b -> b\n  a -> c b\n").replace("event 9", "event 9 \"nine\"");
         assert_eq!(write(&read(&named)), CANONICAL);
+    }
+
+    const NAMED: &str = "\
+part
+observer rank 1 compartments 0 3
+states idle 0.1 full.x lost
+start idle
+classes {idle 0.1} {full.x} {lost}
+event 7 \"<b>send & 'é'\" input rank 2 compartments none
+  idle -> 0.1 full.x
+  0.1 -> 0.1
+event 9 output rank 0 compartments none
+event 12 internal rank 3 compartments 1 5
+  full.x -> idle
+";
+
+    /// Names stay; all else becomes canonical as without them, and comments go.
+    #[test]
+    fn the_canonical_text_with_names() {
+        assert_eq!(super::write(&read_table(NAMED)), NAMED);
+        let other = NAMED.replace("states idle 0.1 full.x", "states # four\n  idle 0.1\n full.x");
+        let other = other.replace("{idle 0.1} {full.x} {lost}", "{3} {2}\n{1 0}").replace("start idle", "start 0");
+        let other = other.replace("idle -> 0.1 full.x\n  0.1 -> 0.1", "1 -> 1 # stays\n 0 -> 2 1");
+        assert_ne!(other, NAMED);
+        assert_eq!(super::write(&read_table(&other)), NAMED);
+        assert_eq!(write(&read(NAMED)), CANONICAL);
+        let fine = NAMED.replace("{lost}\n", "{lost}\nfine {idle} {0.1} {full.x} {lost}\n");
+        assert_eq!(super::write(&read_table(&fine)), fine);
+    }
+
+    /// A table with so many states; state s has a name of length `lengths[s % lengths.len()]`.
+    fn with_names(lengths: &[usize], count: usize) -> Table {
+        let name = |s: usize| format!("n{s:0>width$}", width = lengths[s % lengths.len()] - 1);
+        let names = Names { states: (0..count).map(name).collect(), ..Names::default() };
+        Table { part: random::full_limited(count, 1), names }
+    }
+
+    /// A class stands on one line however long it is, names do not.
+    #[test]
+    fn many_names_stand_on_several_lines() {
+        let one = super::write(&with_names(&[8], 8));
+        assert!(one.contains("\nstates n0000000 n0000001 "), "{one}");
+        let two = super::write(&with_names(&[8], 9));
+        assert!(two.contains("\nstates\n  n0000000 n0000001 "), "{two}");
+        assert!(two.contains(" n0000007\n  n0000008\nstart n0000008\nclasses {n0000000 "), "{two}");
+        assert!(two.contains("\nfine\n  {n0000000}\n  {n0000001}\n"), "{two}");
+    }
+
+    /// No line is too long, unless it has one name, and none has room for the first name of the next.
+    fn full_lines(table: &Table) {
+        let text = super::write(table);
+        let names = text.lines().skip(2).take_while(|line| !line.starts_with("start"));
+        let lines: Vec<&str> = names.map(|line| line.strip_prefix("states").unwrap_or(line)).collect();
+        for line in &lines {
+            let length = if lines.len() == 1 { "states".len() + line.len() } else { line.len() };
+            assert!(length < WIDTH || line.split_whitespace().count() == 1, "{text}");
+        }
+        for two in lines.windows(2).filter(|two| !two[0].is_empty()) {
+            let next = two[1].split_whitespace().next().unwrap();
+            assert!(two[0].len() + 1 + next.len() >= WIDTH, "{text}");
+        }
+    }
+
+    #[test]
+    fn lines_of_names_are_full() {
+        for length in 3..=90 {
+            for count in [1, 2, 64] {
+                for table in [with_names(&[length], count), with_names(&[length, length + 1, 5], count)] {
+                    full_lines(&table);
+                    named_round_trip(&table);
+                }
+            }
+        }
     }
 
     #[test]
@@ -263,7 +377,9 @@ event 2 output rank 0 compartments none
         let tables = files("examples", "table");
         assert!(tables.len() >= 10);
         for path in tables {
-            round_trip(&read(&fs::read_to_string(path).unwrap()));
+            let table = read_table(&fs::read_to_string(path).unwrap());
+            round_trip(&table.part);
+            named_round_trip(&table);
         }
     }
 
@@ -289,7 +405,8 @@ event 2 output rank 0 compartments none
             let identifiers = [part.event(0).is_some(), part.event(u16::MAX).is_some()];
             let observers = [1, 2, 3, 4].map(|count| part.observers.len() == count);
             let fine = part.observers[0].fine.as_ref();
-            let refined = [fine.is_none(), fine == Some(&part.observers[0].classes), part.observers[0].limit() > 1];
+            let alike = fine == Some(&part.observers[0].classes);
+            let refined = [fine.is_none(), alike, fine.is_some() && !alike];
             let observed = observers.into_iter().chain(refined);
             for (count, came) in limits.iter_mut().zip(ends.into_iter().chain(identifiers).chain(observed)) {
                 *count += came as usize;

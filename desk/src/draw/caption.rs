@@ -1,9 +1,10 @@
-//! The text under a drawing: title, observer, verdict in words, legend.
+//! The text under a drawing: title, observer, what is left out, the verdict in words, legend.
 
-use super::dot::{escaped, filled};
+use super::dot::{escaped, escaped_lines};
+use super::view::View;
 use super::{SEEN, UNSEEN};
-use crate::part::{Observer, Table};
-use crate::verdict::{self, Verdict};
+use crate::proved::Verdict;
+use crate::verdict;
 
 const WIDTH: usize = 76;
 
@@ -11,28 +12,45 @@ fn row(content: &str) -> String {
     format!("<TR><TD ALIGN=\"LEFT\" BALIGN=\"LEFT\">{content}</TD></TR>")
 }
 
-/// Words on lines of the caption's width.
-fn lines(words: &str) -> String {
-    let lines = filled(words.split_whitespace(), " ", WIDTH);
-    let lines: Vec<String> = lines.iter().map(|line| escaped(line)).collect();
-    lines.join("<BR/>")
-}
-
-fn verdict_row(table: &Table, observer: &Observer, verdict: &Verdict) -> String {
-    row(&format!("<B>{}</B>", lines(&verdict::words(table, observer, verdict))))
+/// A row of words, as many lines as they need.
+fn words(words: &str) -> String {
+    row(&escaped_lines(words, WIDTH))
 }
 
 /// The observers that the drawing does not show; nothing where the part has only one.
-fn other_observers(table: &Table, observer: &Observer) -> Option<String> {
-    let others = table.part.observers.iter().filter(|other| other.level != observer.level);
+fn other_observers(view: &View) -> Option<String> {
+    let others = view.table.part.observers.iter().filter(|other| other.level != view.observer.level);
     let levels: Vec<String> = others.map(|other| other.level.text_and_byte()).collect();
-    (!levels.is_empty()).then(|| row(&lines(&format!("not shown: observer {}", levels.join(", observer ")))))
+    (!levels.is_empty()).then(|| words(&format!("not shown: observer {}", levels.join(", observer "))))
 }
 
 /// What the boxes of a limited part are; nothing where they are classes alone.
-fn boxes(observer: &Observer) -> Option<String> {
-    let words = "a limited part: a box is a coarse class, a box in it a fine class";
-    observer.fine.as_ref().map(|_| row(words))
+fn boxes(view: &View) -> Option<String> {
+    view.observer.fine.as_ref().map(|_| words("a limited part: a box is a coarse class, a box in it a fine class"))
+}
+
+/// What is left out around a break; nothing where everything is shown.
+fn left_out(view: &View) -> Option<String> {
+    view.around.map(|around| words(&around.words(view.table.part.states)))
+}
+
+/// For whom the break is, where that is not the observer shown.
+fn elsewhere(view: &View, verdict: &Verdict) -> Option<String> {
+    let Verdict::Broken(broken) = verdict else { return None };
+    let told = format!(
+        "The break is for the observer {}, who is not shown here: no step or state is marked, and the classes named \
+         below are that observer's.",
+        broken.observer.text_and_byte()
+    );
+    view.broken.is_none().then(|| words(&told))
+}
+
+/// The line of the verdict, then its sentences.
+fn verdict_rows(view: &View, verdict: &Verdict) -> String {
+    let mut rows = row(&format!("<B>verdict: {}</B>", verdict::line(verdict)));
+    rows.extend(elsewhere(view, verdict));
+    rows.extend(verdict::sentences(view.table, verdict).iter().map(|sentence| words(sentence)));
+    rows
 }
 
 /// What the observer sees of an event, then the signs.
@@ -44,14 +62,13 @@ fn legend() -> String {
 }
 
 /// The caption as an HTML-like label.
-pub fn caption(table: &Table, observer: &Observer, title: &str, verdict: Option<&Verdict>) -> String {
-    let level = observer.level.text_and_byte();
-    let mut rows = row(&format!("<B>{}</B>, observer {}", escaped(title), escaped(&level)));
-    rows.extend(other_observers(table, observer));
-    rows.extend(boxes(observer));
-    if let Some(verdict) = verdict {
-        rows.push_str(&verdict_row(table, observer, verdict));
-    }
+pub fn caption(view: &View, title: &str, verdict: &Verdict) -> String {
+    let level = view.observer.level.text_and_byte();
+    let mut rows = row(&format!("<B>{}</B>, observer {level}", escaped(title)));
+    rows.extend(other_observers(view));
+    rows.extend(boxes(view));
+    rows.extend(left_out(view));
+    rows.push_str(&verdict_rows(view, verdict));
     rows.push_str(&legend());
     format!("<<TABLE BORDER=\"0\" CELLBORDER=\"0\" CELLSPACING=\"2\">{rows}</TABLE>>")
 }

@@ -1,6 +1,7 @@
 //! Pieces of Graphviz's language: escaped text, attribute lists.
 
-/// Text inside an HTML-like label. Graphviz would replace `\G` and the like, so each backslash stands twice.
+/// Text inside an HTML-like label. Graphviz would replace `\G` and the like, so each backslash stands twice; and it would
+/// leave out tabs, and turn away control characters and the two that XML has not.
 pub fn escaped(text: &str) -> String {
     let mut out = String::new();
     for c in text.chars() {
@@ -10,6 +11,8 @@ pub fn escaped(text: &str) -> String {
             '>' => out.push_str("&gt;"),
             '"' => out.push_str("&quot;"),
             '\\' => out.push_str("\\\\"),
+            '\t' => out.push(' '),
+            '\u{FFFE}' | '\u{FFFF}' => out.push('?'),
             c if c.is_control() => out.push('?'),
             c => out.push(c),
         }
@@ -44,6 +47,13 @@ pub fn filled<'a>(pieces: impl Iterator<Item = &'a str>, joint: &str, width: usi
     lines
 }
 
+/// Words on lines of at most `width` characters, inside an HTML-like label.
+pub fn escaped_lines(words: &str, width: usize) -> String {
+    let lines = filled(words.split_whitespace(), " ", width);
+    let lines: Vec<String> = lines.iter().map(|line| escaped(line)).collect();
+    lines.join("<BR/>")
+}
+
 #[cfg(test)]
 mod tests {
     use super::*;
@@ -51,6 +61,7 @@ mod tests {
     #[test]
     fn escaped_text() {
         assert_eq!(escaped("a<b> & \"c\" \\G\n"), "a&lt;b&gt; &amp; &quot;c&quot; \\\\G?");
+        assert_eq!(escaped("a\tb\u{FFFE}c\u{FFFF}\u{85}d é 😀"), "a b?c??d é 😀");
     }
 
     #[test]
@@ -63,5 +74,11 @@ mod tests {
         assert_eq!(filled("aa bb cccccc d".split(' '), " ", 5), ["aa bb", "cccccc", "d"]);
         assert_eq!(filled(["?1", "!2", "τ3"].into_iter(), ", ", 6), ["?1, !2", "τ3"]);
         assert_eq!(filled("".split_whitespace(), " ", 5), [""; 0]);
+    }
+
+    /// A line's width is that of the text, not that of its escapes.
+    #[test]
+    fn lines_of_escaped_words() {
+        assert_eq!(escaped_lines("<a> &b  c", 6), "&lt;a&gt; &amp;b<BR/>c");
     }
 }

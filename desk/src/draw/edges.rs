@@ -2,9 +2,9 @@
 
 use super::breaks::{is_named, missing};
 use super::dot::{attributes, escaped, filled};
+use super::view::View;
 use super::{SEEN, UNSEEN};
-use crate::part::{Event, Kind, Observer, Part, Table};
-use crate::verdict::Break;
+use crate::part::{Event, Kind, Observer, Table};
 
 /// A label's line is filled up to this many characters.
 const WIDTH: usize = 14;
@@ -33,11 +33,11 @@ fn styled(text: &str, seen: bool) -> String {
 }
 
 /// The label's lines: seen events first, several to a line while they are short.
-fn label(table: &Table, observer: &Observer, events: &[&Event]) -> String {
+fn label(view: &View, events: &[&Event]) -> String {
     let mut lines = Vec::new();
     for seen in [true, false] {
-        let here = events.iter().filter(|event| observer.sees(event) == seen);
-        let texts: Vec<String> = here.map(|event| event_text(table, event)).collect();
+        let here = events.iter().filter(|event| view.observer.sees(event) == seen);
+        let texts: Vec<String> = here.map(|event| event_text(view.table, event)).collect();
         let filled = filled(texts.iter().map(String::as_str), ", ", WIDTH);
         lines.extend(filled.iter().map(|line| styled(line, seen) + "<BR ALIGN=\"LEFT\"/>"));
     }
@@ -55,53 +55,57 @@ fn line(observer: &Observer, events: &[&Event]) -> (&'static str, String) {
     }
 }
 
-fn edge(table: &Table, observer: &Observer, [s, t]: [usize; 2], events: &[&Event], marked: bool) -> String {
+fn edge(view: &View, [s, t]: [usize; 2], events: &[&Event], marked: bool) -> String {
     let label = match marked {
-        true => format!("<<B>{}</B>>", label(table, observer, events)),
-        false => format!("<{}>", label(table, observer, events)),
+        true => format!("<<B>{}</B>>", label(view, events)),
+        false => format!("<{}>", label(view, events)),
     };
-    let (style, color) = line(observer, events);
+    let (style, color) = line(view.observer, events);
     let mut pairs = vec![("label", label.as_str()), ("style", style), ("color", &color)];
     if marked {
         pairs.push(("penwidth", "3.5"));
     }
+    // A marked loop goes to the left, away from the loop of the other events.
+    if marked && s == t {
+        pairs.extend([("tailport", "w"), ("headport", "w")]);
+    }
     format!("  s{s} -> s{t} [{}];", attributes(&pairs))
 }
 
-/// Is there a step from another state to this one?
-fn entered(part: &Part, t: usize) -> bool {
-    let mut others = (0..part.states).filter(|&s| s != t);
-    others.any(|s| part.events.iter().any(|event| event.leads(s, t)))
+/// Is a step from another state to this one shown?
+fn entered(view: &View, t: usize) -> bool {
+    view.states().any(|s| s != t && !view.events(s, t).is_empty())
 }
 
-/// The start state's arrow. Edges that are not drawn keep states without an arrow below the start.
-pub fn start(part: &Part) -> Vec<String> {
+/// The start state's arrow, where it is shown. Edges that are not drawn keep states without an arrow below the start.
+pub fn start(view: &View) -> Vec<String> {
+    let start = view.table.part.start;
+    if !view.shows(start) {
+        return Vec::new();
+    }
     let mut lines = vec![
         "  start [shape=point, width=0.14, label=\"\", fillcolor=black];".to_string(),
-        format!("  start -> s{} [penwidth=1.5];", part.start),
+        format!("  start -> s{start} [penwidth=1.5];"),
     ];
-    let lone = (0..part.states).filter(|&s| s != part.start && !entered(part, s));
+    let lone = view.states().filter(|&s| s != start && !entered(view, s));
     lines.extend(lone.map(|s| format!("  start -> s{s} [style=invis];")));
     lines
 }
 
-/// All steps. The one that a break names has an edge of its own, and the missing one ends in its note.
-pub fn edges(table: &Table, observer: &Observer, broken: Option<&Break>) -> Vec<String> {
-    let n = table.part.states;
-    let mut lines = Vec::new();
-    for s in 0..n {
-        for t in 0..n {
-            let here = table.part.events.iter().filter(|event| event.leads(s, t));
-            let (named, others): (Vec<&Event>, Vec<&Event>) = here.partition(|event| is_named(broken, event, s, t));
-            if !others.is_empty() {
-                lines.push(edge(table, observer, [s, t], &others, false));
-            }
-            if !named.is_empty() {
-                lines.push(edge(table, observer, [s, t], &named, true));
-            }
-        }
-    }
-    if let Some((s, _)) = missing(table, broken) {
+/// The steps from one state to another: the one that a break names has an edge of its own.
+fn edges_between(view: &View, s: usize, t: usize) -> Vec<String> {
+    let (named, others): (Vec<&Event>, Vec<&Event>) =
+        view.events(s, t).into_iter().partition(|event| is_named(view, event, s, t));
+    let both = [(others, false), (named, true)];
+    let drawn = both.iter().filter(|(events, _)| !events.is_empty());
+    drawn.map(|(events, marked)| edge(view, [s, t], events, *marked)).collect()
+}
+
+/// All steps that are shown. The missing one ends in its note.
+pub fn edges(view: &View) -> Vec<String> {
+    let pairs = view.states().flat_map(|s| view.states().map(move |t| (s, t)));
+    let mut lines: Vec<String> = pairs.flat_map(|(s, t)| edges_between(view, s, t)).collect();
+    if let Some((s, _)) = missing(view) {
         lines.push(format!("  s{s} -> missing [style=dotted, penwidth=2.5, arrowhead=tee];"));
     }
     lines
