@@ -3,13 +3,14 @@
 use crate::part::Table;
 use crate::proved::Visit;
 use crate::reader::find_state;
+use crate::tokens::shown;
 
 /// The state that a word of the command line stands for: its number, or its name.
 pub fn state(table: &Table, word: &str) -> Result<usize, String> {
     let (count, names) = (table.part.states, &table.names.states);
     let or = if names.is_empty() { "" } else { " or its name" };
     find_state(word, count, names)
-        .ok_or_else(|| format!("expected a state from 0 to {}{or}, found '{word}'", count - 1))
+        .ok_or_else(|| format!("expected a state from 0 to {}{or}, found '{}'", count - 1, shown(word)))
 }
 
 /// `in 1 step: `; the states that need none stand without such words.

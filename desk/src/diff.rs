@@ -268,6 +268,12 @@ fn by_number(a: Side, b: Side, scope: Scope) -> Vec<String> {
     lines
 }
 
+/// Where the states have the same names in another order: state i of A is state `from[i]` of B.
+fn in_another_order(a: Side, b: Side) -> Option<Vec<usize>> {
+    let from = numbering::by_names(&a.table.names, &b.table.names)?;
+    from.iter().enumerate().any(|(s, &in_b)| s != in_b).then_some(from)
+}
+
 /// The states that have other numbers in B; state i of A is state `from[i]` there.
 fn numbering_line(a: Side, b: Side, from: &[usize]) -> String {
     let moved = from.iter().enumerate().filter(|(s, in_b)| s != *in_b);
@@ -276,48 +282,48 @@ fn numbering_line(a: Side, b: Side, from: &[usize]) -> String {
     format!("numbering: the states have other numbers in {}: {}", b.called, words.join(", "))
 }
 
-/// The differences and, where they are told by the states' names and not by their numbers, the numbering.
-struct Comparison {
+/// What there is to tell of two tables.
+pub struct Comparison {
+    /// By the numbers of the states nothing differs.
+    pub same: bool,
+    /// Where the states have the same names in another order, which.
     numbering: Option<String>,
+    /// The differences, by name where there is a numbering, with the numbers of A.
     lines: Vec<String>,
 }
 
 impl Comparison {
-    fn told(self) -> Vec<String> {
+    pub fn told(self) -> Vec<String> {
         self.numbering.into_iter().chain(self.lines).collect()
     }
 }
 
-/// Compares by number; where that gives differences and the states have the same names in another order, by name, with
-/// the numbers of A.
 fn compare(a: Side, b: Side, scope: Scope) -> Comparison {
-    let lines = by_number(a, b, scope);
-    let in_another_order = |from: &Vec<usize>| from.iter().enumerate().any(|(s, &in_b)| s != in_b);
-    match numbering::by_names(&a.table.names, &b.table.names).filter(in_another_order) {
-        Some(from) if !lines.is_empty() => {
-            let renumbered = numbering::table(b.table, &from);
-            let lines = by_number(a, Side { table: &renumbered, ..b }, scope);
-            Comparison { numbering: Some(numbering_line(a, b, &from)), lines }
-        }
-        _ => Comparison { numbering: None, lines },
+    let mut lines = by_number(a, b, scope);
+    let same = lines.is_empty();
+    let from = in_another_order(a, b);
+    if let (Some(from), false) = (&from, same) {
+        let renumbered = numbering::table(b.table, from);
+        lines = by_number(a, Side { table: &renumbered, ..b }, scope);
     }
+    Comparison { same, numbering: from.map(|from| numbering_line(a, b, &from)), lines }
 }
 
 /// The differences of states, start, events and steps alone, of two tables that are called so; none exactly if only the
-/// observers and their groupings may differ.
+/// observers and their groupings may differ, and the names that both have stand in the same order.
 pub fn without_observers(a: (&str, &Table), b: (&str, &Table)) -> Vec<String> {
     let [a, b] = [a, b].map(|(called, table)| Side { called, table });
     compare(a, b, Scope::WithoutObservers).told()
 }
 
-/// All differences of two tables, called A and B; none exactly if the two parts are the same.
-pub fn differences(a: &Table, b: &Table) -> Vec<String> {
+/// Compares two tables, called A and B; they are the same exactly if their parts are, as names make no difference.
+pub fn differences(a: &Table, b: &Table) -> Comparison {
     let [a, b] = [("A", a), ("B", b)].map(|(called, table)| Side { called, table });
     let mut comparison = compare(a, b, Scope::All);
-    if comparison.numbering.is_some() && comparison.lines.is_empty() {
+    if !comparison.same && comparison.lines.is_empty() {
         comparison.lines.push("the same part but for the numbering of the states".to_string());
     }
-    comparison.told()
+    comparison
 }
 
 #[cfg(test)]
@@ -344,10 +350,19 @@ event 12 internal rank 3 compartments 1 5
         reader::read(text.as_bytes()).unwrap()
     }
 
+    /// The lines that are told, some exactly where the parts are not the same.
+    fn lines_of(a: &Table, b: &Table) -> Vec<String> {
+        let comparison = differences(a, b);
+        let same = comparison.same;
+        let told = comparison.told();
+        assert_eq!((same, told.is_empty()), (a.part == b.part, same), "{told:?}");
+        told
+    }
+
     /// The differences of A and of A with one piece of its text replaced.
     fn changed(old: &str, new: &str) -> Vec<String> {
         assert!(A.contains(old), "{old}");
-        differences(&table(A), &table(&A.replacen(old, new, 1)))
+        lines_of(&table(A), &table(&A.replacen(old, new, 1)))
     }
 
     #[test]
@@ -404,13 +419,13 @@ event 12 internal rank 3 compartments 1 5
         let renamed =
             A.replace("full", "busy").replace("\"send\"", "\"put\"").replace("idle -> sent busy", "idle -> sent");
         let expected = ["event 7 \"send/put\", from 0:idle: only A leads to 2:full"];
-        assert_eq!(differences(&table(A), &table(&renamed)), expected);
+        assert_eq!(lines_of(&table(A), &table(&renamed)), expected);
         let renamed =
             renamed.replace("{idle sent} {busy}", "{idle} {sent} {busy}").replace("idle -> sent", "idle -> sent busy");
-        let lines = differences(&table(A), &table(&renamed));
+        let lines = lines_of(&table(A), &table(&renamed));
         assert_eq!(lines[2], "grouping: together in A, apart in B: 0:idle with 1:sent");
         let renamed = renamed.replace("sent", "gone");
-        let lines = differences(&table(A), &table(&renamed));
+        let lines = lines_of(&table(A), &table(&renamed));
         assert_eq!(lines[2], "grouping: together in A, apart in B: 0:idle with 1:sent/gone");
     }
 
@@ -418,7 +433,7 @@ event 12 internal rank 3 compartments 1 5
     fn turned(old: &str, new: &str) -> Vec<String> {
         let text = A.replace("states idle sent full", "states full idle sent");
         assert!(text.contains(old), "{old}");
-        differences(&table(A), &table(&text.replacen(old, new, 1)))
+        lines_of(&table(A), &table(&text.replacen(old, new, 1)))
     }
 
     const NUMBERING: &str =
@@ -429,7 +444,7 @@ event 12 internal rank 3 compartments 1 5
         assert_eq!(turned("part", "part"), [NUMBERING, "the same part but for the numbering of the states"]);
         let swapped = table(&A.replace("states idle sent full", "states idle full sent"));
         let numbering = "numbering: the states have other numbers in B: 1:sent is 2 in B, 2:full is 1 in B";
-        assert_eq!(differences(&table(A), &swapped)[0], numbering);
+        assert_eq!(lines_of(&table(A), &swapped)[0], numbering);
         let other = "event 7 \"send\", from 1:sent: only A leads to 1:sent; only B leads to 2:full";
         assert_eq!(turned("sent -> sent", "sent -> full"), [NUMBERING, other]);
         assert_eq!(turned("start idle", "start 0"), [NUMBERING, "start: A 0:idle, B 2:full"]);
@@ -437,19 +452,29 @@ event 12 internal rank 3 compartments 1 5
         assert_eq!(turned("{idle sent} {full}", "{idle} {sent} {full}")[2], grouping);
     }
 
-    /// Another set of names, and the names of one table alone, are no numbering; nor is a part that is the same by its
-    /// numbers.
+    /// Another set of names, and the names of one table alone, are no numbering.
     #[test]
     fn no_numbering() {
-        let lines = differences(&table(A), &table(&A.replace("full", "busy").replace("start idle", "start sent")));
+        let lines = lines_of(&table(A), &table(&A.replace("full", "busy").replace("start idle", "start sent")));
         assert_eq!(lines, ["start: A 0:idle, B 1:sent"]);
         let turned = A.replace("states idle sent full", "states full idle sent");
         let unnamed = Table::unnamed(table(&turned).part);
-        let lines = differences(&table(A), &unnamed);
+        let lines = lines_of(&table(A), &unnamed);
         assert_eq!(lines[0], "start: A 0:idle, B 1");
-        let by_numbers = "part\nobserver rank 0 compartments none\nstates a b\nstart 0\nclasses {0 1}\n";
-        let renamed = by_numbers.replace("states a b", "states b a");
-        assert_eq!(differences(&table(by_numbers), &table(&renamed)), [""; 0]);
+    }
+
+    /// The same record with its names in another order is the same part; the numbering is told all the same, and where
+    /// groupings are put together it is a difference.
+    #[test]
+    fn the_same_part_with_its_names_in_another_order() {
+        let [a, b] = ["a b c", "a c b"].map(|names| {
+            table(&format!("part\nobserver rank 0 compartments none\nstates {names}\nstart 0\nclasses {{0 1}} {{2}}\n"))
+        });
+        let numbering = ["numbering: the states have other numbers in B: 1:b is 2 in B, 2:c is 1 in B"];
+        let comparison = differences(&a, &b);
+        assert!(comparison.same && a.part == b.part);
+        assert_eq!(comparison.told(), numbering);
+        assert_eq!(without_observers(("A", &a), ("B", &b)), numbering);
     }
 
     #[test]
@@ -479,7 +504,7 @@ event 12 internal rank 3 compartments 1 5
     fn another_number_of_states_comes_first() {
         let fewer = "part\nobserver rank 0 compartments none\nstates 2\nstart 1\nclasses {0} {1}\n\
                      event 7 input rank 2 compartments none\n0 -> 1\n1 -> 1\n";
-        let lines = differences(&table(A), &table(fewer));
+        let lines = lines_of(&table(A), &table(fewer));
         assert_eq!(lines[0], "states: A has 3, B has 2; only the states 0 to 1 are compared below");
         assert_eq!(lines[1], "observer: A rank 1 compartments 0 3 (0x49), B rank 0 compartments none (0x00)");
         assert_eq!(lines[2], "start: A 0:idle, B 1");
@@ -494,7 +519,7 @@ event 12 internal rank 3 compartments 1 5
     #[test]
     fn one_shared_state() {
         let one = "part\nobserver rank 1 compartments 0 3\nstates 1\nstart 0\nclasses {0}\n";
-        let lines = differences(&table(one), &table(A));
+        let lines = lines_of(&table(one), &table(A));
         assert_eq!(lines[0], "states: A has 1, B has 3; only state 0 is compared below");
         assert_eq!(lines[1], "event 7 \"send\": only in B: input, rank 2 compartments none (0x80), 3 steps");
     }
@@ -504,7 +529,7 @@ event 12 internal rank 3 compartments 1 5
         let mut together = random::full(64, 0);
         let apart = Table::unnamed(together.clone());
         together.observers[0].classes = vec![0; 64];
-        let lines = differences(&Table::unnamed(together), &apart);
+        let lines = lines_of(&Table::unnamed(together), &apart);
         let pairs = lines.last().unwrap();
         assert!(pairs.starts_with("grouping: together in A, apart in B: 0 with 1, 0 with 2, "), "{pairs}");
         assert!(pairs.ends_with(", 0 with 10, and 2006 more"), "{pairs}");
@@ -521,7 +546,7 @@ event 12 internal rank 3 compartments 1 5
     /// The differences of the part with three observers and of it with one piece of its text replaced.
     fn changed_watched(old: &str, new: &str) -> Vec<String> {
         assert!(watched().contains(old), "{old}");
-        differences(&table(&watched()), &table(&watched().replacen(old, new, 1)))
+        lines_of(&table(&watched()), &table(&watched().replacen(old, new, 1)))
     }
 
     #[test]
@@ -530,7 +555,7 @@ event 12 internal rank 3 compartments 1 5
             "observer rank 1 compartments none (0x40): only in B: 1 class",
             "observer rank 2 compartments none (0x80): only in B: 3 classes",
         ];
-        assert_eq!(differences(&table(A), &table(&watched())), expected);
+        assert_eq!(lines_of(&table(A), &table(&watched())), expected);
         let expected = [
             "observer rank 1 compartments 0 3 (0x49): only in A: 2 classes",
             "observer rank 1 compartments 3 (0x48): only in B: 2 classes",
@@ -551,7 +576,7 @@ event 12 internal rank 3 compartments 1 5
         ];
         assert_eq!(changed_watched("{idle sent} {full}", "{idle} {sent full}"), expected);
         let one = table(&A.replace("{idle sent} {full}", "{idle} {sent full}"));
-        let lines = differences(&table(&watched()), &one);
+        let lines = lines_of(&table(&watched()), &one);
         assert_eq!(lines[0], "observer rank 1 compartments none (0x40): only in A: 1 class");
         assert_eq!(lines[1], "observer rank 2 compartments none (0x80): only in A: 3 classes");
         assert_eq!(lines[2..], expected);
@@ -572,10 +597,10 @@ event 12 internal rank 3 compartments 1 5
     #[test]
     fn fine_classes_of_one_part_only() {
         let line = |side, count| format!("fine grouping: only in {side}: {count} classes");
-        assert_eq!(differences(&limited("{0} {1} {2}"), &table(A)), [line("A", 3)]);
-        assert_eq!(differences(&table(A), &limited("{0} {1} {2}")), [line("B", 3)]);
-        assert_eq!(differences(&table(A), &limited("{0 1} {2}")), [line("B", 2)]);
-        assert_eq!(differences(&limited("{0} {1} {2}"), &limited("{2} {1} {0}")), [""; 0]);
+        assert_eq!(lines_of(&limited("{0} {1} {2}"), &table(A)), [line("A", 3)]);
+        assert_eq!(lines_of(&table(A), &limited("{0} {1} {2}")), [line("B", 3)]);
+        assert_eq!(lines_of(&table(A), &limited("{0 1} {2}")), [line("B", 2)]);
+        assert_eq!(lines_of(&limited("{0} {1} {2}"), &limited("{2} {1} {0}")), [""; 0]);
     }
 
     #[test]
@@ -585,9 +610,9 @@ event 12 internal rank 3 compartments 1 5
             "fine grouping: classes only in B: {0:idle} {1:sent}",
             "fine grouping: together in A, apart in B: 0:idle with 1:sent",
         ];
-        assert_eq!(differences(&limited("{0 1} {2}"), &limited("{0} {1} {2}")), expected);
+        assert_eq!(lines_of(&limited("{0 1} {2}"), &limited("{0} {1} {2}")), expected);
         let coarser = table(&A.replace("{idle sent} {full}\n", "{idle sent full}\nfine {0 1} {2}\n"));
-        let lines = differences(&limited("{0 1} {2}"), &coarser);
+        let lines = lines_of(&limited("{0 1} {2}"), &coarser);
         assert_eq!(lines[0], "grouping: classes only in A: {0:idle 1:sent} {2:full}");
         assert_eq!(lines[1], "grouping: classes only in B: {0:idle 1:sent 2:full}");
         assert!(lines.iter().all(|line| line.starts_with("grouping: ")), "{lines:?}");
@@ -596,11 +621,11 @@ event 12 internal rank 3 compartments 1 5
     /// Beside a part with several observers the fine classes are told with their observer.
     #[test]
     fn fine_classes_and_several_observers() {
-        let lines = differences(&limited("{0} {1} {2}"), &table(&watched()));
+        let lines = lines_of(&limited("{0} {1} {2}"), &table(&watched()));
         assert_eq!(lines[2], "fine grouping for the observer rank 1 compartments 0 3 (0x49): only in A: 3 classes");
         assert_eq!(lines.len(), 3);
         let other = watched().replace("compartments 0 3", "compartments 3");
-        let lines = differences(&limited("{0} {1} {2}"), &table(&other));
+        let lines = lines_of(&limited("{0} {1} {2}"), &table(&other));
         assert_eq!(lines[0], "observer rank 1 compartments 0 3 (0x49): only in A: 2 classes, 3 fine classes");
         assert!(lines.iter().all(|line| !line.starts_with("fine grouping")), "{lines:?}");
     }
@@ -676,7 +701,7 @@ event 12 internal rank 3 compartments 1 5
             let a = random::any(&mut rng);
             let mut b = a.clone();
             change(&mut rng, &mut b);
-            let lines = differences(&Table::unnamed(a.clone()), &Table::unnamed(b.clone()));
+            let lines = lines_of(&Table::unnamed(a.clone()), &Table::unnamed(b.clone()));
             assert_eq!(lines.is_empty(), a == b);
             assert_eq!(a == b, crate::record::write(&a) == crate::record::write(&b));
             match a == b {
@@ -692,7 +717,7 @@ event 12 internal rank 3 compartments 1 5
         let mut rng = Rng::new(4);
         for _ in 0..500 {
             let (a, b) = (random::any(&mut rng), random::any(&mut rng));
-            assert_eq!(differences(&Table::unnamed(a.clone()), &Table::unnamed(b.clone())).is_empty(), a == b);
+            lines_of(&Table::unnamed(a.clone()), &Table::unnamed(b.clone()));
         }
     }
 }

@@ -372,13 +372,13 @@ impl Reader {
         Ok(())
     }
 
-    /// All events to the end of the file; `or` is what else might stand before the first.
+    /// All events to the end of the text; `or` is what else might stand before the first.
     fn events(&mut self, states: &States, names: &mut Names, or: &str) -> Result<Vec<Event>, Fault> {
         let mut events: Vec<Event> = Vec::new();
         while self.peek().what != What::FileEnd {
             if !self.at_word("event") {
                 let other = if events.is_empty() { or } else { "a step such as '0 -> 1', " };
-                return unexpected(self.peek(), &format!("{other}'event' or the end of the file"));
+                return unexpected(self.peek(), &format!("{other}'event' or the end of the text"));
             }
             if events.len() == MAX_EVENTS {
                 return fault(self.peek().place, format!("expected at most {MAX_EVENTS} events, found one more"));
@@ -621,9 +621,9 @@ event 7 \"send it\" input rank 2 compartments none
 
     #[test]
     fn faults_of_the_first_lines() {
-        assert_eq!(parse("").unwrap_err(), "1:1: expected 'part', found the end of the file");
-        assert_eq!(parse("# none\n").unwrap_err(), "2:1: expected 'part', found the end of the file");
-        assert_eq!(parse("part").unwrap_err(), "1:5: expected 'observer', found the end of the file");
+        assert_eq!(parse("").unwrap_err(), "1:1: expected 'part', found the end of the text");
+        assert_eq!(parse("# none\n").unwrap_err(), "2:1: expected 'part', found the end of the text");
+        assert_eq!(parse("part").unwrap_err(), "1:5: expected 'observer', found the end of the text");
         assert_eq!(said("part", "Part"), "2:1: expected 'part', found 'Part'");
         assert_eq!(said("part", "part 1"), "2:6: expected the end of the line, found '1'");
         assert_eq!(said("observer", "states"), "3:1: expected 'observer', found 'states'");
@@ -748,7 +748,7 @@ event 7 \"send it\" input rank 2 compartments none
 
     #[test]
     fn faults_of_events() {
-        assert_eq!(said("event 7", "7"), "7:1: expected 'fine', 'observer', 'event' or the end of the file, found '7'");
+        assert_eq!(said("event 7", "7"), "7:1: expected 'fine', 'observer', 'event' or the end of the text, found '7'");
         assert_eq!(said("event 7", "event 65536"), "7:7: expected an identifier from 0 to 65535, found '65536'");
         assert_eq!(said("event 7", "event send"), "7:7: expected an identifier from 0 to 65535, found 'send'");
         let falling = "10:7: expected an identifier above 7, the one before it; found";
@@ -787,7 +787,7 @@ event 7 \"send it\" input rank 2 compartments none
         assert_eq!(said("  1 -> 1", "  1 -> 1 0 sent"), "9:12: state 1 stands twice on this line, expected each once");
         let twice = "9:3: state 0 has a line under this event already, expected one line";
         assert_eq!(said("  1 -> 1", "  idle -> 1"), twice);
-        let other = "expected a step such as '0 -> 1', 'event' or the end of the file, found";
+        let other = "expected a step such as '0 -> 1', 'event' or the end of the text, found";
         assert_eq!(said("  1 -> 1", "  -> 1"), format!("9:3: {other} '->'"));
     }
 
@@ -847,11 +847,11 @@ event 7 \"send it\" input rank 2 compartments none
 
     #[test]
     fn other_faults_of_several_observers() {
-        let other = "'observer', 'event' or the end of the file, found";
+        let other = "'observer', 'event' or the end of the text, found";
         assert_eq!(said_watched("event 7", "7"), format!("13:1: expected {other} '7'"));
         let full = WATCHED.replace("event 7", "observer rank 3 compartments none\nclasses {0 1 2}\n7");
         let fault = parse(&full).unwrap_err();
-        assert_eq!(fault, "15:1: expected 'event' or the end of the file, found '7'");
+        assert_eq!(fault, "15:1: expected 'event' or the end of the text, found '7'");
         let found = said_watched("classes {idle sent} {full}", "states 3");
         assert_eq!(found, "7:1: expected 'classes', found 'states'");
         assert_eq!(
@@ -937,7 +937,7 @@ event 7 \"send it\" input rank 2 compartments none
     #[test]
     fn fine_classes_at_another_place() {
         let second = LIMITED.replace("event 7", "fine {0 1} {2} {3}\nevent 7");
-        assert_eq!(parse(&second).unwrap_err(), "8:1: expected 'event' or the end of the file, found 'fine'");
+        assert_eq!(parse(&second).unwrap_err(), "8:1: expected 'event' or the end of the text, found 'fine'");
         let before = LIMITED.replace("classes", "fine");
         assert_eq!(parse(&before).unwrap_err(), "5:1: expected 'classes', found 'fine'");
         let behind = LIMITED.to_string() + "fine {0 1} {2} {3}\n";
@@ -966,7 +966,7 @@ event 7 \"send it\" input rank 2 compartments none
         assert_eq!(said("rank 1"), "expected 'compartments', found the end of the line");
         assert_eq!(said("rank 1 compartments none none"), "expected the end of the line, found 'none'");
         assert_eq!(said("rank 1 compartments none\nrank"), "expected nothing more, found 'rank'");
-        assert_eq!(said(""), "expected 'rank', found the end of the file");
+        assert_eq!(said(""), "expected 'rank', found the end of the text");
     }
 
     /// In tables without names no name is offered.
@@ -986,7 +986,7 @@ event 7 \"send it\" input rank 2 compartments none
         let quote = "7:9: expected '\"' at the end of this name, found the end of the line";
         assert_eq!(said("\"send it\"", "\"send it"), quote);
         assert_eq!(said("\"send it\"", "\" \""), "7:9: expected a name between the quotes, found none");
-        let control = "expected visible text, found the control character";
+        let control = "expected visible text, found the hidden character";
         assert_eq!(said("send it", "send\u{7}it"), format!("7:14: {control} U+0007"));
         assert_eq!(said("# names", "# \u{202E}names"), format!("4:35: {control} U+202E"));
         assert_eq!(said("start idle", "start\ridle"), format!("5:6: {control} U+000D"));

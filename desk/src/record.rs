@@ -135,7 +135,7 @@ fn any_of(kinds: &[u16]) -> String {
 /// Conditions 1 to 3: length and kind. Gives the kind.
 fn header(bytes: &[u8]) -> Result<u16, Misfit> {
     if bytes.len() < HEADER {
-        let message = format!("the file has {}, expected 6 or more", counted(bytes.len(), "byte"));
+        let message = format!("the record has {}, expected 6 or more", counted(bytes.len(), "byte"));
         return misfit(1, bytes.len(), message);
     }
     let length = u32_at(bytes, 0) as usize;
@@ -428,9 +428,9 @@ mod tests {
 
     #[test]
     fn conditions_1_to_3() {
-        assert_eq!(said(&[]), "1 at 0: the file has 0 bytes, expected 6 or more");
-        assert_eq!(said(&[1]), "1 at 1: the file has 1 byte, expected 6 or more");
-        assert_eq!(said(&toggle()[..5]), "1 at 5: the file has 5 bytes, expected 6 or more");
+        assert_eq!(said(&[]), "1 at 0: the record has 0 bytes, expected 6 or more");
+        assert_eq!(said(&[1]), "1 at 1: the record has 1 byte, expected 6 or more");
+        assert_eq!(said(&toggle()[..5]), "1 at 5: the record has 5 bytes, expected 6 or more");
         let two = "2 at 0: the length is 46, but the number of bytes after the first six is 45";
         assert_eq!(said(&toggle()[..51]), two);
         let two = "2 at 0: the length is 16777262, but the number of bytes after the first six is 46";
@@ -499,7 +499,7 @@ mod tests {
     #[test]
     fn a_misfit_in_words() {
         let misfit = read(&[1, 2]).unwrap_err();
-        assert_eq!(misfit.to_string(), "byte 2: condition 1: the file has 2 bytes, expected 6 or more");
+        assert_eq!(misfit.to_string(), "byte 2: condition 1: the record has 2 bytes, expected 6 or more");
     }
 
     #[test]
@@ -542,7 +542,7 @@ mod tests {
 
     #[test]
     fn conditions_1_to_4_of_kind_2() {
-        assert_eq!(said(&watched()[..4]), "1 at 4: the file has 4 bytes, expected 6 or more");
+        assert_eq!(said(&watched()[..4]), "1 at 4: the record has 4 bytes, expected 6 or more");
         let two = "2 at 0: the length is 53, but the number of bytes after the first six is 52";
         assert_eq!(said(&watched()[..58]), two);
         assert_eq!(watched_with(&[(4, 4)]), "3 at 4: the record's kind is 4, expected 1, 2 or 3");
@@ -692,7 +692,7 @@ mod tests {
 
     #[test]
     fn conditions_1_to_5_of_kind_3() {
-        assert_eq!(said(&limited()[..5]), "1 at 5: the file has 5 bytes, expected 6 or more");
+        assert_eq!(said(&limited()[..5]), "1 at 5: the record has 5 bytes, expected 6 or more");
         let two = "2 at 0: the length is 84, but the number of bytes after the first six is 83";
         assert_eq!(said(&limited()[..89]), two);
         assert_eq!(limited_with(&[(4, 4)]), "3 at 4: the record's kind is 4, expected 1, 2 or 3");

@@ -57,19 +57,25 @@ impl fmt::Display for What {
             What::Close => write!(f, "'}}'"),
             What::Arrow => write!(f, "'->'"),
             What::LineEnd => write!(f, "the end of the line"),
-            What::FileEnd => write!(f, "the end of the file"),
+            What::FileEnd => write!(f, "the end of the text"),
             What::Bad(message) => write!(f, "{message}"),
         }
     }
 }
 
-/// Marks that show text in another order than it stands in the file.
-fn reorders(c: char) -> bool {
-    matches!(c, '\u{061C}' | '\u{200E}' | '\u{200F}' | '\u{202A}'..='\u{202E}' | '\u{2066}'..='\u{2069}')
+/// Characters of which nothing is seen, or that show text in other lines or in another order than it stands in the file.
+fn formats(c: char) -> bool {
+    matches!(c, '\u{AD}' | '\u{61C}' | '\u{180E}' | '\u{200B}'..='\u{200F}' | '\u{2028}'..='\u{202E}')
+        || matches!(c, '\u{2060}'..='\u{206F}' | '\u{FEFF}' | '\u{FFF9}'..='\u{FFFB}' | '\u{E0000}'..='\u{E007F}')
 }
 
 fn hidden(c: char) -> bool {
-    (c.is_control() && c != '\t') || reorders(c)
+    (c.is_control() && c != '\t') || formats(c)
+}
+
+/// Words from elsewhere, such as a file's name, for a message: on one line, and without hidden characters.
+pub fn shown(words: &str) -> String {
+    words.chars().map(|c| if hidden(c) || c == '\t' { '?' } else { c }).collect()
 }
 
 fn in_word(c: char) -> bool {
@@ -107,18 +113,22 @@ impl Line<'_> {
         what
     }
 
-    fn arrow(&mut self) -> What {
-        self.next += 1;
-        if self.here() == Some('>') {
-            return self.one(What::Arrow);
-        }
-        What::Bad("expected '->', found '-'".to_string())
+    /// Does an arrow begin here?
+    fn at_arrow(&self) -> bool {
+        self.chars[self.next..].starts_with(&['-', '>'])
     }
 
-    /// A word; letters of other alphabets and dots at any place are taken with it, to name the whole word.
+    /// A word; letters of other alphabets, hyphens and dots at any place are taken with it, to name the whole word.
     fn word(&mut self) -> What {
-        let word = self.take(in_word);
-        if !word.is_ascii() {
+        let mut word = String::new();
+        while !self.at_arrow() && self.here().is_some_and(|c| in_word(c) || c == '-') {
+            word.extend(self.here());
+            self.next += 1;
+        }
+        if word == "-" {
+            return What::Bad("expected '->', found '-'".to_string());
+        }
+        if !word.is_ascii() || word.contains('-') {
             let letters = "expected only the letters a to z and A to Z, digits, '_' and '.'";
             return What::Bad(format!("{letters}, found '{word}'"));
         }
@@ -139,7 +149,10 @@ impl Line<'_> {
         if name.trim().is_empty() {
             return What::Bad("expected a name between the quotes, found none".to_string());
         }
-        What::Quoted(name)
+        match name.contains('\t') {
+            true => What::Bad("expected visible text between the quotes, found a tab".to_string()),
+            false => What::Quoted(name),
+        }
     }
 
     /// The token that begins at the next character.
@@ -147,9 +160,12 @@ impl Line<'_> {
         match first {
             '{' => self.one(What::Open),
             '}' => self.one(What::Close),
-            '-' => self.arrow(),
+            '-' if self.at_arrow() => {
+                self.next += 2;
+                What::Arrow
+            }
             '"' => self.quoted(),
-            c if in_word(c) => self.word(),
+            c if in_word(c) || c == '-' => self.word(),
             c => self.one(What::Bad(format!("expected a word, a number, '{{', '}}', '->' or '\"', found '{c}'"))),
         }
     }
@@ -158,7 +174,7 @@ impl Line<'_> {
 /// The first character of a line that may not stand in a table.
 pub(crate) fn hidden_in(chars: &[char]) -> Option<(usize, String)> {
     let at = chars.iter().position(|&c| hidden(c))?;
-    Some((at, format!("expected visible text, found the control character U+{:04X}", chars[at] as u32)))
+    Some((at, format!("expected visible text, found the hidden character U+{:04X}", chars[at] as u32)))
 }
 
 /// The tokens of one line; a comment is none.
@@ -250,6 +266,31 @@ mod tests {
             let message = format!("expected a letter, a digit or '_' before and behind each '.', found '{bad}'");
             assert_eq!(split(&format!("x {bad} y"))[1], at(1, 3, What::Bad(message)));
         }
+    }
+
+    /// An arrow ends a word; any other hyphen is told with the word that it stands in.
+    #[test]
+    fn hyphens() {
+        assert_eq!(split("a->b")[..2], [at(1, 1, word("a")), at(1, 2, What::Arrow)]);
+        for (text, column, found) in [("a-b", 1, "a-b"), ("event -1", 7, "-1"), ("a-->b", 1, "a-")] {
+            let message = format!("expected only the letters a to z and A to Z, digits, '_' and '.', found '{found}'");
+            assert!(split(text).contains(&at(1, column, What::Bad(message))), "{text}");
+        }
+        assert_eq!(split("a - > b")[1], at(1, 3, What::Bad("expected '->', found '-'".to_string())));
+    }
+
+    #[test]
+    fn hidden_characters() {
+        for c in [
+            '\u{0}', '\u{1B}', '\u{7F}', '\u{85}', '\u{AD}', '\u{200B}', '\u{2028}', '\u{202E}', '\u{2066}', '\u{FEFF}',
+        ] {
+            let message = format!("expected visible text, found the hidden character U+{:04X}", c as u32);
+            assert_eq!(split(&format!("a \"b{c}\""))[0], at(1, 5, What::Bad(message)));
+            assert_eq!(shown(&format!("a{c}b\tc\n")), "a?b?c?");
+        }
+        let tab = "expected visible text between the quotes, found a tab".to_string();
+        assert_eq!(split("a\t\"b\tc\"")[1], at(1, 3, What::Bad(tab)));
+        assert_eq!(shown("é \"x\" 'y'"), "é \"x\" 'y'");
     }
 
     #[test]

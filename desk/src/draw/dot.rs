@@ -1,7 +1,7 @@
 //! Pieces of Graphviz's language: escaped text, attribute lists.
 
 /// Text inside an HTML-like label. Graphviz would replace `\G` and the like, so each backslash stands twice; and it would
-/// leave out tabs, and turn away control characters and the two that XML has not.
+/// turn away control characters and the two that XML has not.
 pub fn escaped(text: &str) -> String {
     let mut out = String::new();
     for c in text.chars() {
@@ -11,7 +11,6 @@ pub fn escaped(text: &str) -> String {
             '>' => out.push_str("&gt;"),
             '"' => out.push_str("&quot;"),
             '\\' => out.push_str("\\\\"),
-            '\t' => out.push(' '),
             '\u{FFFE}' | '\u{FFFF}' => out.push('?'),
             c if c.is_control() => out.push('?'),
             c => out.push(c),
@@ -61,7 +60,7 @@ mod tests {
     #[test]
     fn escaped_text() {
         assert_eq!(escaped("a<b> & \"c\" \\G\n"), "a&lt;b&gt; &amp; &quot;c&quot; \\\\G?");
-        assert_eq!(escaped("a\tb\u{FFFE}c\u{FFFF}\u{85}d é 😀"), "a b?c??d é 😀");
+        assert_eq!(escaped("a\tb\u{FFFE}c\u{FFFF}\u{85}d é 😀"), "a?b?c??d é 😀");
     }
 
     #[test]

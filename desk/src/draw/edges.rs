@@ -65,10 +65,6 @@ fn edge(view: &View, [s, t]: [usize; 2], events: &[&Event], marked: bool) -> Str
     if marked {
         pairs.push(("penwidth", "3.5"));
     }
-    // A marked loop goes to the left, away from the loop of the other events.
-    if marked && s == t {
-        pairs.extend([("tailport", "w"), ("headport", "w")]);
-    }
     format!("  s{s} -> s{t} [{}];", attributes(&pairs))
 }
 

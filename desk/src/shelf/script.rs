@@ -264,7 +264,7 @@ pub fn read(bytes: &[u8], is_standard_input: bool) -> Result<Script<Given>, Faul
     }
     match reader.capacity {
         Some(capacity) => Ok(Script { capacity, calls: reader.calls }),
-        None => fault(end_of(text), "expected 'capacity', found the end of the file".to_string()),
+        None => fault(end_of(text), "expected 'capacity', found the end of the text".to_string()),
     }
 }
 
@@ -360,8 +360,8 @@ part 3 -o bytes
 
     #[test]
     fn the_capacity_comes_first_and_once() {
-        assert_eq!(said(""), "1:1: expected 'capacity', found the end of the file");
-        assert_eq!(said("# capacity 1\n\n"), "3:1: expected 'capacity', found the end of the file");
+        assert_eq!(said(""), "1:1: expected 'capacity', found the end of the text");
+        assert_eq!(said("# capacity 1\n\n"), "3:1: expected 'capacity', found the end of the text");
         assert_eq!(said("\n clear\n"), "2:2: expected 'capacity', found 'clear'");
         assert_eq!(said("capacity"), "1:9: expected a number of bytes from 0 to 262144, found the end of the line");
         assert_eq!(said("capacity 262145"), "1:10: expected a number of bytes from 0 to 262144, found '262145'");
@@ -414,8 +414,8 @@ part 3 -o bytes
     #[test]
     fn faults_of_characters() {
         assert_eq!(said_of("x \"y").split(',').next(), Some("1: expected 'clear'"));
-        assert_eq!(said_of("load a\u{7}"), "7: expected visible text, found the control character U+0007");
-        assert_eq!(said_of("count # \u{202E}"), "9: expected visible text, found the control character U+202E");
+        assert_eq!(said_of("load a\u{7}"), "7: expected visible text, found the hidden character U+0007");
+        assert_eq!(said_of("count # \u{202E}"), "9: expected visible text, found the hidden character U+202E");
         let fault = read(b"capacity 1\nload \xFF", false).unwrap_err();
         assert_eq!(fault.to_string(), "2:6: expected text in UTF-8, found the byte 0xFF");
     }

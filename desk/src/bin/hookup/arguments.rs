@@ -8,6 +8,7 @@ use crate::files::is_standard_input;
 use crate::trouble::Trouble;
 use desk::level::Level;
 use desk::reader;
+use desk::tokens::shown;
 
 /// What a command takes.
 pub struct Form {
@@ -73,7 +74,7 @@ impl Arguments {
             let value = joined.or_else(|| rest.next());
             (name, value.ok_or_else(|| format!("expected a word after {name}"))?)
         } else {
-            return Err(format!("unexpected option {word}"));
+            return Err(format!("unexpected option {}", shown(word)));
         };
         match self.options.insert(name, value) {
             Some(_) => Err(format!("{name} stands twice")),

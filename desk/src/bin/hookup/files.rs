@@ -5,9 +5,11 @@ use std::io::{self, Read};
 use std::os::unix::fs::MetadataExt;
 use std::path::Path;
 
+use crate::standard;
 use crate::trouble::Trouble;
 use desk::part::Table;
 use desk::source::{is_text, Source, MOST_OF_A_RECORD, MOST_OF_A_TEXT};
+use desk::tokens::shown;
 
 /// Standard input where a file is named.
 pub fn is_standard_input(path: &Path) -> bool {
@@ -19,15 +21,15 @@ pub fn title(path: &Path) -> String {
     match is_standard_input(path) {
         true => "standard input".to_string(),
         false if path.as_os_str().is_empty() => "''".to_string(),
-        false => path.display().to_string(),
+        false => shown(&path.to_string_lossy()),
     }
 }
 
 /// A file's name without its folders.
 pub fn short_title(path: &Path) -> String {
-    match is_standard_input(path) {
-        true => title(path),
-        false => path.file_name().unwrap_or(path.as_os_str()).to_string_lossy().into_owned(),
+    match path.file_name() {
+        Some(name) if !is_standard_input(path) => shown(&name.to_string_lossy()),
+        _ => title(path),
     }
 }
 
@@ -37,7 +39,7 @@ fn open(path: &Path) -> io::Result<Box<dyn Read>> {
         return Err(io::Error::other("the name is empty"));
     }
     match is_standard_input(path) {
-        true => Ok(Box::new(io::stdin().lock())),
+        true => standard::INPUT.is_open().map(|()| Box::new(io::stdin().lock()) as Box<dyn Read>),
         false => Ok(Box::new(File::open(path)?)),
     }
 }
@@ -120,5 +122,7 @@ mod tests {
         assert_eq!(short_title(Path::new("-")), "standard input");
         assert_eq!(short_title(Path::new("a/b.table")), "b.table");
         assert_eq!(title(Path::new("a/b.table")), "a/b.table");
+        assert_eq!(title(Path::new("a\nb/\u{1b}[2J")), "a?b/?[2J");
+        assert_eq!(short_title(Path::new("a/b\npass")), "b?pass");
     }
 }

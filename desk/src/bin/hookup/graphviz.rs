@@ -6,6 +6,7 @@ use std::path::Path;
 use std::process::{Child, Command, Output, Stdio};
 use std::thread;
 
+use crate::files::title;
 use crate::trouble::Trouble;
 
 /// A drawing's format, by the extension of its file.
@@ -26,7 +27,7 @@ impl Format {
             Some("png") => Ok(Format::Picture("png")),
             Some("pdf") => Ok(Format::Picture("pdf")),
             _ => {
-                let found = path.display();
+                let found = title(path);
                 Err(Trouble::usage(format!("-o: expected OUT.dot, OUT.svg, OUT.png or OUT.pdf, found '{found}'")))
             }
         }

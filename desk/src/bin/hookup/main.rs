@@ -6,14 +6,15 @@ mod commands;
 mod files;
 mod graphviz;
 mod output;
+mod standard;
 mod trouble;
 
 use std::ffi::OsString;
-use std::io::{stderr, Write};
 use std::process::exit;
 
 use arguments::Form;
 use commands::COMMANDS;
+use desk::tokens::shown;
 use trouble::Trouble;
 
 const HELP: &str = "\
@@ -49,7 +50,7 @@ fn version() -> String {
 fn find(word: &str) -> Result<&'static Form, Trouble> {
     let names: Vec<&str> = COMMANDS.iter().map(|form| form.name).collect();
     let found = COMMANDS.iter().find(|form| form.name == word);
-    let other = if word.is_empty() { String::new() } else { format!(", found '{word}'") };
+    let other = if word.is_empty() { String::new() } else { format!(", found '{}'", shown(word)) };
     let expected = || format!("expected a command ({}){other}; hookup --help tells more", names.join(", "));
     found.copied().ok_or_else(|| Trouble::usage(expected()))
 }
@@ -83,12 +84,5 @@ fn run() -> Result<i32, Trouble> {
 }
 
 fn main() {
-    match run() {
-        Ok(status) => exit(status),
-        Err(trouble) => {
-            // Where standard error is closed too, the status must do.
-            let _ = writeln!(stderr(), "{}", trouble.message);
-            exit(trouble.status);
-        }
-    }
+    exit(run().unwrap_or_else(Trouble::told));
 }

@@ -1,40 +1,18 @@
 //! What a command writes: to standard output, or to the file of `-o`, which is there whole or not at all.
 
-use std::fs::{self, File, OpenOptions};
+use std::fs::{self, File, Metadata, OpenOptions, Permissions};
 use std::io::{self, ErrorKind, IsTerminal, Write};
+use std::os::unix::fs::{fchown, MetadataExt, OpenOptionsExt, PermissionsExt};
 use std::path::{Path, PathBuf};
 use std::process;
-use std::sync::atomic::{AtomicBool, Ordering};
 
 use crate::files::{same_file, title};
+use crate::standard;
 use crate::trouble::Trouble;
-
-/// Standard output was closed when the program was started. The runtime opens /dev/null in its place before `main`, and
-/// what is written there seems to arrive; so it is looked at before that.
-static CLOSED: AtomicBool = AtomicBool::new(false);
-
-const STANDARD_OUTPUT: i32 = 1;
-const GET_FLAGS: i32 = 1;
-
-extern "C" {
-    fn fcntl(descriptor: i32, command: i32, ...) -> i32;
-}
-
-extern "C" fn look() {
-    // Safety: asking for the flags of a descriptor changes nothing, whether it is open or not.
-    let flags = unsafe { fcntl(STANDARD_OUTPUT, GET_FLAGS) };
-    CLOSED.store(flags == -1, Ordering::Relaxed);
-}
-
-#[used]
-#[link_section = ".init_array"]
-static BEFORE_MAIN: extern "C" fn() = look;
 
 /// Writes to standard output. Where nobody reads it any more, that is no trouble.
 fn to_standard_output(bytes: &[u8]) -> io::Result<()> {
-    if CLOSED.load(Ordering::Relaxed) {
-        return Err(io::Error::other("it is closed"));
-    }
+    standard::OUTPUT.is_open()?;
     let mut out = io::stdout().lock();
     match out.write_all(bytes).and_then(|()| out.flush()) {
         Err(why) if why.kind() == ErrorKind::BrokenPipe => Ok(()),
@@ -73,8 +51,8 @@ fn to_file(path: &Path, inputs: &[PathBuf], bytes: &[u8]) -> io::Result<()> {
         Ok(there) if there.is_file() => {
             // A file that may not be written is not replaced either.
             OpenOptions::new().write(true).open(path)?;
-            // Behind a symbolic link the file itself is written anew; it keeps its permissions.
-            replace(&fs::canonicalize(path)?, bytes, Some(there.permissions()))
+            // Behind a symbolic link the file itself is written anew.
+            replace(&fs::canonicalize(path)?, bytes, Some(there))
         }
         // A device or a pipe is written to as it is.
         Ok(_) => OpenOptions::new().write(true).open(path)?.write_all(bytes),
@@ -84,20 +62,35 @@ fn to_file(path: &Path, inputs: &[PathBuf], bytes: &[u8]) -> io::Result<()> {
 }
 
 /// Writes a new file beside the one that is wanted, and gives it the name once all bytes are in it.
-fn replace(path: &Path, bytes: &[u8], permissions: Option<fs::Permissions>) -> io::Result<()> {
+fn replace(path: &Path, bytes: &[u8], before: Option<Metadata>) -> io::Result<()> {
     let new = path.with_file_name(format!(".hookup-{}.new", process::id()));
-    let written = create(&new, bytes, permissions).and_then(|()| fs::rename(&new, path));
+    let written = create(&new, bytes, before).and_then(|()| fs::rename(&new, path));
     if written.is_err() {
         let _ = fs::remove_file(&new);
     }
     written
 }
 
-fn create(path: &Path, bytes: &[u8], permissions: Option<fs::Permissions>) -> io::Result<()> {
-    let mut file: File = OpenOptions::new().write(true).create_new(true).open(path)?;
+/// In the place of a file that was there before, nobody else reads the new one until it is as that was.
+fn create(path: &Path, bytes: &[u8], before: Option<Metadata>) -> io::Result<()> {
+    let mode = if before.is_some() { 0o600 } else { 0o666 };
+    let mut file: File = OpenOptions::new().write(true).create_new(true).mode(mode).open(path)?;
     file.write_all(bytes)?;
-    if let Some(permissions) = permissions {
-        file.set_permissions(permissions)?;
+    if let Some(before) = before {
+        keep(&file, &before)?;
     }
     file.sync_all()
+}
+
+/// Gives a file the group, the owner and the permissions of another. A user who may not give it away keeps it, and what
+/// was allowed to a group is allowed to no other.
+fn keep(file: &File, before: &Metadata) -> io::Result<()> {
+    let mut mode = before.mode() & 0o7777;
+    if fchown(file, None, Some(before.gid())).is_err() {
+        mode &= !0o2070;
+    }
+    if fchown(file, Some(before.uid()), None).is_err() {
+        mode &= !0o4000;
+    }
+    file.set_permissions(Permissions::from_mode(mode))
 }

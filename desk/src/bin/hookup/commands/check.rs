@@ -1,6 +1,5 @@
 //! `hookup check`
 
-use std::io::{stderr, Write};
 use std::path::Path;
 
 use crate::arguments::{Arguments, Form};
@@ -35,7 +34,8 @@ names of the table: what the rule asks, for which observer, at which event and s
 missing there, and whether a run of the part comes to s. Of rule 1 T and U mean nothing, and of
 rule 2 U, and the words leave them out. With several files the name of each stands above.
 
---line   prints the line alone
+--line   prints the line alone; a file that cannot be read, or a faulty table, has no line, only
+         its message on standard error
 --json   prints one object a line instead: file, verdict (pass, break, refused or trouble),
          line, words, and of a break its values with their names
 
@@ -128,16 +128,15 @@ fn text(file: &Path, source: &Source, verdict: &Verdict, style: Style) -> String
 }
 
 /// Tells what stands in the way of a file's verdict; the other files are judged all the same.
-fn tell(file: &Path, style: Style, trouble: &Trouble) -> Result<(), Trouble> {
+fn tell(file: &Path, style: Style, trouble: Trouble) -> Result<(), Trouble> {
     if style == Style::Json {
         let mut object = Object::default();
         object.text("file", &file.to_string_lossy());
         object.text("verdict", "trouble");
-        object.texts("words", std::slice::from_ref(&trouble.message));
+        object.texts("words", &[trouble.message]);
         return print(&object.line());
     }
-    // Where standard error is closed, the status must do.
-    let _ = writeln!(stderr(), "{}", trouble.message);
+    trouble.told();
     Ok(())
 }
 
@@ -148,7 +147,7 @@ fn judge(file: &Path, style: Style) -> Result<i32, Trouble> {
             let verdict = proved::explain(&source.record);
             print(&text(file, &source, &verdict, style)).map(|()| status(&verdict))
         }
-        Err(trouble) => tell(file, style, &trouble).map(|()| USAGE),
+        Err(trouble) => tell(file, style, trouble).map(|()| USAGE),
     }
 }
 

@@ -8,6 +8,7 @@ use crate::arguments::{Arguments, Form};
 use crate::files::{self, is_standard_input, title};
 use crate::output;
 use crate::trouble::{Trouble, CONTENT};
+use desk::record;
 use desk::shelf::bytes::{self, MAX_BYTES};
 use desk::shelf::run::{Shelf, Told};
 use desk::shelf::{script, Call, Given, Loaded, Name, Script};
@@ -107,7 +108,11 @@ fn read(path: &Path) -> Result<Script<Given>, Trouble> {
     if content.is_empty() || is_text(&content) {
         return script::read(&content, is_standard_input(path)).map_err(|fault| told(fault.to_string()));
     }
-    bytes::read(&for_replay(path, content)?).map_err(|fault| told(format!(" {fault}")))
+    let content = for_replay(path, content)?;
+    bytes::read(&content).map_err(|fault| match record::read(&content) {
+        Ok(_) => told(" expected a script, found the record of a part".to_string()),
+        Err(_) => told(format!(" {fault}")),
+    })
 }
 
 /// Trouble with a file that a script names, told with the line.
@@ -134,19 +139,21 @@ fn load(path: &Path, script: Script<Given>) -> Result<Script<Loaded>, Trouble> {
     })
 }
 
-/// Makes the calls, all of them also where some are not done, and prints each answer.
+/// Makes the calls, all of them also where some are not done or a file cannot be written, and prints each answer.
 fn make(script: &Script<Loaded>, inputs: &Inputs) -> Result<i32, Trouble> {
     let mut shelf = Shelf::new(script.capacity);
-    let mut status = 0;
+    let mut highest = 0;
     for (i, call) in script.calls.iter().enumerate() {
         let told = shelf.make(call);
-        let written = write_part(call, &shelf, inputs)?;
+        let (written, trouble) = match write_part(call, &shelf, inputs) {
+            Ok(written) => (written, None),
+            Err(trouble) => (None, Some(trouble)),
+        };
         output::print(&answer(i + 1, call, &told, written))?;
-        if !told.is_done() {
-            status = CONTENT;
-        }
+        let status = if told.is_done() { 0 } else { CONTENT };
+        highest = highest.max(status).max(trouble.map_or(0, Trouble::told));
     }
-    Ok(status)
+    Ok(highest)
 }
 
 /// Writes the record of a part to its file, if the call names one and the part is there.
