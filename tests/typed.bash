@@ -5,6 +5,8 @@ named=tests/${0##*/}
 fail() { echo "$named: $*" >&2; exit 1; }
 # What this machine cannot try is told, and told again at the end of ./test.
 not_tried() { echo "$named: $*" | tee -a "${NOT_TRIED:-/dev/null}"; }
+# Paths below it are words of commands here, and must have no blanks.
+[[ ${TMPDIR:-} != *[[:space:]]* ]] || unset TMPDIR
 work=$(readlink -f "$(mktemp -d)")
 trap 'rm -rf "$work"' EXIT
 tried=0

@@ -5,7 +5,7 @@ use std::collections::BTreeSet;
 
 use crate::diff::common_name;
 use crate::observers::levels;
-use crate::part::{Kind, Names, Table, Titled};
+use crate::part::{Kind, Names, Table, Titled, MAX_NAME};
 use crate::proved::{Obstacle, Verdict};
 use crate::{record, verdict, writer};
 
@@ -23,11 +23,11 @@ fn pairs(a: &[String], b: &[String]) -> Vec<String> {
     a.iter().flat_map(|of_a| b.iter().map(move |of_b| format!("{of_a}.{of_b}"))).collect()
 }
 
-/// The pairs of the names; of the numbers, where two pairs of names would make the same one.
+/// The pairs of the names; of the numbers, where two pairs of names would make the same one, or one is too long for a name.
 fn state_names(a: &Table, b: &Table) -> Vec<String> {
     let names = pairs(&pieces(a), &pieces(b));
     let different: BTreeSet<&String> = names.iter().collect();
-    match different.len() == names.len() {
+    match different.len() == names.len() && names.iter().all(|name| name.len() <= MAX_NAME) {
         true => names,
         false => pairs(&numbers(a), &numbers(b)),
     }
@@ -178,6 +178,17 @@ event 2 \"hear\" input rank 0 compartments none
         assert_eq!(table.names.states, ["0.0", "0.1", "0.2", "1.0", "1.1", "1.2"]);
         assert_eq!((table.names.event(1), table.names.event(2)), (Some("flip"), Some("hear")));
         assert_eq!(reader::read(writer::write(&table).as_bytes()), Ok(table));
+    }
+
+    /// A pair that would have a longer name than a name may be makes all names numbers.
+    #[test]
+    fn long_names() {
+        let half = "x".repeat(50);
+        for (name, first) in [(&half[1..], format!("{}.{half}", &half[1..])), (&half, "0.0".to_string())] {
+            let a = with(P, &[("states off on\nstart off", &format!("states {name} on\nstart 0"))]);
+            let b = with(Q, &[("states here there gone\nstart here", &format!("states {half} b c\nstart 0"))]);
+            assert_eq!(joined(&a, &b).names.states[0], first);
+        }
     }
 
     /// Pairs that would have one name make all names numbers; dots in one part alone do not.

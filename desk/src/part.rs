@@ -6,6 +6,8 @@ use std::collections::BTreeMap;
 use crate::level::Level;
 
 pub const MAX_STATES: usize = 64;
+/// The longest name of a state; so no table needs more bytes than are read.
+pub const MAX_NAME: usize = 100;
 pub const MAX_EVENTS: usize = 32;
 pub const MAX_OBSERVERS: usize = 4;
 

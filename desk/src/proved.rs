@@ -4,6 +4,7 @@
 use std::ops::Range;
 
 use crate::level::Level;
+use crate::part::Observer;
 
 #[allow(clippy::too_many_arguments)]
 mod entries {
@@ -42,8 +43,15 @@ pub struct Break {
     pub s: usize,
     pub t: usize,
     pub u: usize,
-    /// The level of the observer for whom the rule is broken.
+    /// The level of the first observer for whom the rule is broken.
     pub observer: Level,
+}
+
+impl Break {
+    /// Is it a break for this observer too? Rule 1 asks the same for all.
+    pub fn concerns(&self, observer: &Observer) -> bool {
+        self.rule == 1 || self.observer == observer.level
+    }
 }
 
 /// The verdict on a record.

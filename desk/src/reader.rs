@@ -3,7 +3,7 @@
 
 use crate::level::{Level, MAX_COMPARTMENT, MAX_RANK};
 use crate::part::{
-    by_first_appearance, Event, Kind, Names, Observer, Part, Table, MAX_EVENTS, MAX_OBSERVERS, MAX_STATES,
+    by_first_appearance, Event, Kind, Names, Observer, Part, Table, MAX_EVENTS, MAX_NAME, MAX_OBSERVERS, MAX_STATES,
 };
 use crate::tokens::{fault, not_text, split, Fault, Place, Token, What};
 
@@ -295,6 +295,12 @@ impl Reader {
         }
         if !is_name(name) {
             return unexpected(&token, wanted);
+        }
+        if name.len() > MAX_NAME {
+            return fault(
+                token.place,
+                format!("expected a name of at most {MAX_NAME} characters, found {}", name.len()),
+            );
         }
         if let Some(s) = before.iter().position(|other| other == name) {
             return fault(token.place, format!("'{name}' already names state {s}, expected another name"));
@@ -683,6 +689,9 @@ event 7 \"send it\" input rank 2 compartments none
         assert_eq!(said(names, "event"), format!("4:8: {first} 'event', a word of the form"));
         assert_eq!(said(names, "idle rank"), format!("4:13: {start} 'rank', a word of the form"));
         assert_eq!(said(names, "idle sent idle"), "4:18: 'idle' already names state 0, expected another name");
+        let long = "x".repeat(101);
+        assert_eq!(said(names, &long), "4:8: expected a name of at most 100 characters, found 101");
+        assert_eq!(said(names, &long[1..]), "5:7: expected a state from 0 to 0 or a state's name, found 'idle'");
     }
 
     /// With a dot a piece may be a number or a word of the form; a number alone stays the number of a state.

@@ -25,15 +25,22 @@ pub struct Source {
     pub goes_on: bool,
 }
 
-/// The marks with which text in UTF-16 begins; as the length of a record they would be too large.
+/// The marks with which text in UTF-16 begins.
 const UTF_16: [&[u8]; 2] = [b"\xFF\xFE", b"\xFE\xFF"];
+
+/// Is it text in UTF-16? A record or a script may begin with the mark's bytes, but its length or capacity is then small
+/// enough that no character stands behind them.
+fn is_utf_16(bytes: &[u8]) -> bool {
+    let marked = UTF_16.iter().any(|mark| bytes.starts_with(mark));
+    marked && bytes.iter().skip(2).take(2).any(|&byte| byte >= b'\t')
+}
 
 /// Is it text? The length in a record's header has zero bytes, which are none. Text in UTF-16 is told as text too, whose
 /// fault it then is not to be in UTF-8.
 pub fn is_text(bytes: &[u8]) -> bool {
     let control = |byte: &u8| *byte < b' ' && !b"\t\n\r".contains(byte);
     let plain = !bytes.is_empty() && !bytes.iter().take(TELLING).any(control);
-    plain || UTF_16.iter().any(|mark| bytes.starts_with(mark))
+    plain || is_utf_16(bytes)
 }
 
 impl Source {
@@ -64,7 +71,17 @@ mod tests {
         for utf_16 in [b"\xFF\xFEp\0a\0", b"\xFE\xFF\0p\0a"] {
             assert_eq!(Source::read(utf_16).unwrap_err().place.column, 1);
         }
-        let records = [&b""[..], b"\xFF\0\xFE", b"\x2e\0\0\0\x01\0", b"\0", b"part\0", b"\x01abcdefg", b"abcde\x1b"];
+        let records = [
+            &b""[..],
+            b"\xFF\0\xFE",
+            b"\xFF\xFE\0\0\0\x03",
+            b"\xFE\xFF\x01\0\0",
+            b"\x2e\0\0\0\x01\0",
+            b"\0",
+            b"part\0",
+            b"\x01abcdefg",
+            b"abcde\x1b",
+        ];
         for record in records {
             assert!(!is_text(record), "{record:?}");
         }

@@ -78,15 +78,16 @@ fn class_of(table: &Table, observer: &Observer, s: usize) -> String {
 
 /// What there is, at which event and states.
 fn found(table: &Table, observer: &Observer, broken: &Break) -> String {
-    let event = event_words(table, observer, broken.event);
+    let event = || event_words(table, observer, broken.event);
     let state = |role: &str, state: usize| format!("{role} = {}", table.state_words(state));
     let (s, t, u) = (state("s", broken.s), state("t", broken.t), state("u", broken.u));
     match broken.rule {
-        1 => format!("The {event} has no step from {s}."),
-        2 => format!("The {event} leads from {s} to {t}."),
+        // The same for all observers, so that the input's level plays no part.
+        1 => format!("The input {} has no step from {s}.", table.event_words(broken.event)),
+        2 => format!("The {} leads from {s} to {t}.", event()),
         rule => {
             let common = common_word(observer, rule);
-            format!("The {event} leads from {s} to {t}, and {u} is in the {common} of s.")
+            format!("The {} leads from {s} to {t}, and {u} is in the {common} of s.", event())
         }
     }
 }
@@ -220,7 +221,7 @@ mod tests {
         let first = "Rule 1 is broken for the observer rank 1 compartments none (0x40).";
         let asks = "It asks: every input has a step from every state.";
         let one = "event 2 \"tick\" input rank 0 compartments none\n a -> a\n b -> b\n";
-        let found = "The low input 2 \"tick\" has no step from s = 2:c.";
+        let found = "The input 2 \"tick\" has no step from s = 2:c.";
         let away = "s cannot be reached from the start; the rules ask it of every state all the same.";
         assert_words(&watched(one), "rule 1 event 2 from 2 to 0 other 0", &[first, asks, found, away]);
         let two = "event 1 input rank 2 compartments none\n a -> c\n b -> b\n c -> c\n";

@@ -34,7 +34,7 @@ pub fn shown<'a>(part: &'a Part, asked: Option<Level>, verdict: &Verdict) -> Res
 /// legend, and the verdict is the one on the part. A break is marked where it is one for this observer.
 pub fn draw(table: &Table, observer: &Observer, title: &str, verdict: &Verdict, around: Option<&Around>) -> String {
     let broken = match verdict {
-        Verdict::Broken(broken) if broken.observer == observer.level => Some(broken),
+        Verdict::Broken(broken) if broken.concerns(observer) => Some(broken),
         _ => None,
     };
     let view = View { table, observer, broken, around };
@@ -302,6 +302,17 @@ event 3 internal rank 0 compartments none
             assert!(caption(&dot).contains(words), "{dot}");
             assert!(caption(&dot).contains("<B>verdict: rule 5 event 2 from 0 to 1 other 1</B>"));
             assert!(!dot.contains("missing [") && !dot.contains("3.5") && !dot.contains("BGCOLOR=\"black\""));
+        }
+    }
+
+    /// Rule 1 is broken for each observer, and marked for the one that is shown.
+    #[test]
+    fn a_break_of_rule_1_for_each_observer() {
+        let deaf = watched(TABLE).replacen("  c -> c\n", "", 1);
+        for level in [Level(0), Level(0x40), Level(0xC0)] {
+            let dot = drawn_for(&deaf, Some(level));
+            assert!(caption(&dot).contains("Rule 1 is broken for each observer."), "{dot}");
+            assert!(dot.contains("missing [") && !dot.contains("who is not shown here"));
         }
     }
 

@@ -63,18 +63,28 @@ fn to_file(path: &Path, inputs: &[PathBuf], bytes: &[u8]) -> io::Result<()> {
 
 /// Writes a new file beside the one that is wanted, and gives it the name once all bytes are in it.
 fn replace(path: &Path, bytes: &[u8], before: Option<Metadata>) -> io::Result<()> {
-    let new = path.with_file_name(format!(".hookup-{}.new", process::id()));
-    let written = create(&new, bytes, before).and_then(|()| fs::rename(&new, path));
+    // In the place of a file that was there before, nobody else reads the new one until it is as that was.
+    let (new, file) = create_beside(path, if before.is_some() { 0o600 } else { 0o666 })?;
+    let written = fill(file, bytes, before).and_then(|()| fs::rename(&new, path));
     if written.is_err() {
         let _ = fs::remove_file(&new);
     }
     written
 }
 
-/// In the place of a file that was there before, nobody else reads the new one until it is as that was.
-fn create(path: &Path, bytes: &[u8], before: Option<Metadata>) -> io::Result<()> {
-    let mode = if before.is_some() { 0o600 } else { 0o666 };
-    let mut file: File = OpenOptions::new().write(true).create_new(true).mode(mode).open(path)?;
+/// A new file beside another one, by a name that is free: a run that was killed may have left its own.
+fn create_beside(path: &Path, mode: u32) -> io::Result<(PathBuf, File)> {
+    let mut number = 0;
+    loop {
+        let new = path.with_file_name(format!(".hookup-{}-{number}.new", process::id()));
+        match OpenOptions::new().write(true).create_new(true).mode(mode).open(&new) {
+            Err(why) if why.kind() == ErrorKind::AlreadyExists => number += 1,
+            opened => return opened.map(|file| (new, file)),
+        }
+    }
+}
+
+fn fill(mut file: File, bytes: &[u8], before: Option<Metadata>) -> io::Result<()> {
     file.write_all(bytes)?;
     if let Some(before) = before {
         keep(&file, &before)?;
@@ -93,4 +103,22 @@ fn keep(file: &File, before: &Metadata) -> io::Result<()> {
         mode &= !0o4000;
     }
     file.set_permissions(Permissions::from_mode(mode))
+}
+
+#[cfg(test)]
+mod tests {
+    use super::*;
+
+    /// What another run has left behind is neither taken nor removed.
+    #[test]
+    fn a_new_file_beside_one_that_was_left_behind() {
+        let folder = std::env::temp_dir().join(format!("hookup-test-{}", process::id()));
+        fs::create_dir(&folder).unwrap();
+        let [left, wanted] = [&format!(".hookup-{}-0.new", process::id()), "wanted"].map(|name| folder.join(name));
+        fs::write(&left, "left").unwrap();
+        replace(&wanted, b"new", None).unwrap();
+        assert_eq!((fs::read(&left).unwrap(), fs::read(&wanted).unwrap()), (b"left".to_vec(), b"new".to_vec()));
+        assert_eq!(fs::read_dir(&folder).unwrap().count(), 2);
+        fs::remove_dir_all(&folder).unwrap();
+    }
 }

@@ -17,8 +17,8 @@ usage: hookup join A B [--text] [-o OUT]
 Writes the record of two parts hooked together, which the proved library makes and which passes
 as both parts do; with --text its table. There a state is called by the pair of its two states,
 idle.sent: by their names or, where a part has none, their numbers. Where two pairs would get
-the same name, all states are called by their numbers. An event has the name that it has in one
-of the parts, or both names, a/b.
+the same name, or one of more than 100 characters, all states are called by their numbers. An
+event has the name that it has in one of the parts, or both names, a/b.
 
 Where there is no joined record, the refusal is told in words: a part that does not pass; 9, the
 observers differ; 10, a shared event clashes; 11, too many states or events.

@@ -7,7 +7,7 @@ use std::rc::Rc;
 use crate::arguments::{Arguments, Form};
 use crate::files::{self, is_standard_input, title};
 use crate::output;
-use crate::trouble::{Trouble, CONTENT};
+use crate::trouble::{Trouble, CONTENT, USAGE};
 use desk::record;
 use desk::shelf::bytes::{self, MAX_BYTES};
 use desk::shelf::run::{Shelf, Told};
@@ -118,7 +118,7 @@ fn read(path: &Path) -> Result<Script<Given>, Trouble> {
 /// Trouble with a file that a script names, told with the line.
 fn at_line(script: &Path, name: &Name, trouble: Trouble) -> Trouble {
     let place = format!("{}:{}", title(script), name.place.line);
-    match trouble.message.strip_prefix("hookup: ") {
+    match trouble.message.strip_prefix("hookup: ").filter(|_| trouble.status == USAGE) {
         Some(why) => Trouble::usage(format!("{place}: {why}")),
         None => Trouble::content(format!("{place}: {}", trouble.message)),
     }
