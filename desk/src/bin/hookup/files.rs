@@ -39,7 +39,7 @@ fn open(path: &Path) -> io::Result<Box<dyn Read>> {
         return Err(io::Error::other("the name is empty"));
     }
     match is_standard_input(path) {
-        true => standard::INPUT.is_open().map(|()| Box::new(io::stdin().lock()) as Box<dyn Read>),
+        true => standard::INPUT.must_be_open().map(|()| Box::new(io::stdin().lock()) as Box<dyn Read>),
         false => Ok(Box::new(File::open(path)?)),
     }
 }

@@ -12,7 +12,7 @@ use crate::trouble::Trouble;
 
 /// Writes to standard output. Where nobody reads it any more, that is no trouble.
 fn to_standard_output(bytes: &[u8]) -> io::Result<()> {
-    standard::OUTPUT.is_open()?;
+    standard::OUTPUT.must_be_open()?;
     let mut out = io::stdout().lock();
     match out.write_all(bytes).and_then(|()| out.flush()) {
         Err(why) if why.kind() == ErrorKind::BrokenPipe => Ok(()),

@@ -14,7 +14,7 @@ pub static INPUT: Stream = Stream { descriptor: 0, closed: AtomicBool::new(false
 pub static OUTPUT: Stream = Stream { descriptor: 1, closed: AtomicBool::new(false) };
 
 impl Stream {
-    pub fn is_open(&self) -> io::Result<()> {
+    pub fn must_be_open(&self) -> io::Result<()> {
         match self.closed.load(Ordering::Relaxed) {
             true => Err(io::Error::other("it is closed")),
             false => Ok(()),
