@@ -3,7 +3,7 @@
 use crate::part::Table;
 use crate::proved::Visit;
 use crate::reader::find_state;
-use crate::tokens::shown;
+use crate::text::shown;
 
 /// The state that a word of the command line stands for: its number, or its name.
 pub fn state(table: &Table, word: &str) -> Result<usize, String> {

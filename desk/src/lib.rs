@@ -18,6 +18,7 @@ pub mod record;
 pub mod refusals;
 pub mod shelf;
 pub mod source;
+pub mod text;
 pub mod tokens;
 pub mod verdict;
 pub mod writer;

@@ -5,7 +5,8 @@ use crate::level::{Level, MAX_COMPARTMENT, MAX_RANK};
 use crate::part::{
     by_first_appearance, Event, Kind, Names, Observer, Part, Table, MAX_EVENTS, MAX_NAME, MAX_OBSERVERS, MAX_STATES,
 };
-use crate::tokens::{fault, not_text, split, Fault, Place, Token, What};
+use crate::text::{fault, not_text, Fault, Place};
+use crate::tokens::{split, Token, What};
 
 /// The words of the form. None of them can name a state.
 const KEYWORDS: [&str; 13] = [

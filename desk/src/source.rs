@@ -3,7 +3,7 @@
 use crate::part::Table;
 use crate::reader;
 use crate::record::{self, Misfit};
-use crate::tokens::Fault;
+use crate::text::Fault;
 
 /// Of a record so many bytes are judged, as by the program `verdict`. No well-formed record is longer.
 pub const MOST_OF_A_RECORD: usize = 65_536;

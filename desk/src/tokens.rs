@@ -1,30 +1,8 @@
-//! Splits a table's text into tokens, each with its line and column (both from 1, a column is a character).
+//! Splits a table's text into tokens, each with its place.
 
 use std::fmt;
 
-#[derive(Clone, Copy, PartialEq, Eq, Debug)]
-pub struct Place {
-    pub line: usize,
-    pub column: usize,
-}
-
-/// What is wrong with a text, and where.
-#[derive(Clone, PartialEq, Eq, Debug)]
-pub struct Fault {
-    pub place: Place,
-    pub message: String,
-}
-
-impl fmt::Display for Fault {
-    fn fmt(&self, f: &mut fmt::Formatter) -> fmt::Result {
-        write!(f, "{}:{}: {}", self.place.line, self.place.column, self.message)
-    }
-}
-
-/// A fault as the outcome of reading something.
-pub(crate) fn fault<T>(place: Place, message: String) -> Result<T, Fault> {
-    Err(Fault { place, message })
-}
+use crate::text::{end_of, Fault, Line, Place};
 
 #[derive(Clone, PartialEq, Eq, Debug)]
 pub enum What {
@@ -63,152 +41,73 @@ impl fmt::Display for What {
     }
 }
 
-/// Characters of which nothing is seen, or that show text in other lines or in another order than it stands in the file.
-fn formats(c: char) -> bool {
-    matches!(c, '\u{AD}' | '\u{61C}' | '\u{180E}' | '\u{200B}'..='\u{200F}' | '\u{2028}'..='\u{202E}')
-        || matches!(c, '\u{2060}'..='\u{206F}' | '\u{FEFF}' | '\u{FFF9}'..='\u{FFFB}' | '\u{E0000}'..='\u{E007F}')
-}
+const ARROW: [char; 2] = ['-', '>'];
 
-fn hidden(c: char) -> bool {
-    (c.is_control() && c != '\t') || formats(c)
-}
-
-/// Words from elsewhere, such as a file's name, for a message: on one line, and without hidden characters.
-pub fn shown(words: &str) -> String {
-    words.chars().map(|c| if hidden(c) || c == '\t' { '?' } else { c }).collect()
-}
-
+/// What is taken for a piece of a word, so that all of it is told where it is none.
 fn in_word(c: char) -> bool {
-    c.is_alphanumeric() || c == '_' || c == '.'
+    c.is_alphanumeric() || "_.-".contains(c)
 }
 
-/// One line's characters and the next to read.
-struct Line<'a> {
-    chars: &'a [char],
-    next: usize,
-}
-
-impl Line<'_> {
-    fn here(&self) -> Option<char> {
-        self.chars.get(self.next).copied()
+/// A word; letters of other alphabets, hyphens and dots at any place are taken with it, to name the whole word.
+fn word(line: &mut Line) -> What {
+    let mut word = String::new();
+    while let Some(c) = line.here().filter(|&c| in_word(c) && !line.at(&ARROW)) {
+        word.push(c);
+        line.pass(1);
     }
-
-    /// Takes characters while a test holds.
-    fn take(&mut self, test: fn(char) -> bool) -> String {
-        let from = self.next;
-        while self.here().is_some_and(test) {
-            self.next += 1;
-        }
-        self.chars[from..self.next].iter().collect()
+    if word == "-" {
+        return What::Bad("expected '->', found '-'".to_string());
     }
-
-    /// Goes past blanks.
-    fn skip_blanks(&mut self) {
-        self.take(|c| c == ' ' || c == '\t');
+    if !word.is_ascii() || word.contains('-') {
+        let letters = "expected only the letters a to z and A to Z, digits, '_' and '.'";
+        return What::Bad(format!("{letters}, found '{word}'"));
     }
-
-    /// Goes past one character and gives its token.
-    fn one(&mut self, what: What) -> What {
-        self.next += 1;
-        what
-    }
-
-    /// Does an arrow begin here?
-    fn at_arrow(&self) -> bool {
-        self.chars[self.next..].starts_with(&['-', '>'])
-    }
-
-    /// A word; letters of other alphabets, hyphens and dots at any place are taken with it, to name the whole word.
-    fn word(&mut self) -> What {
-        let mut word = String::new();
-        while !self.at_arrow() && self.here().is_some_and(|c| in_word(c) || c == '-') {
-            word.extend(self.here());
-            self.next += 1;
-        }
-        if word == "-" {
-            return What::Bad("expected '->', found '-'".to_string());
-        }
-        if !word.is_ascii() || word.contains('-') {
-            let letters = "expected only the letters a to z and A to Z, digits, '_' and '.'";
-            return What::Bad(format!("{letters}, found '{word}'"));
-        }
-        match word.split('.').any(str::is_empty) {
-            true => What::Bad(format!("expected a letter, a digit or '_' before and behind each '.', found '{word}'")),
-            false => What::Word(word),
-        }
-    }
-
-    /// A name in quotes; the next character is the first quote.
-    fn quoted(&mut self) -> What {
-        self.next += 1;
-        let name = self.take(|c| c != '"');
-        if self.here().is_none() {
-            return What::Bad("expected '\"' at the end of this name, found the end of the line".to_string());
-        }
-        self.next += 1;
-        if name.trim().is_empty() {
-            return What::Bad("expected a name between the quotes, found none".to_string());
-        }
-        match name.contains('\t') {
-            true => What::Bad("expected visible text between the quotes, found a tab".to_string()),
-            false => What::Quoted(name),
-        }
-    }
-
-    /// The token that begins at the next character.
-    fn token(&mut self, first: char) -> What {
-        match first {
-            '{' => self.one(What::Open),
-            '}' => self.one(What::Close),
-            '-' if self.at_arrow() => {
-                self.next += 2;
-                What::Arrow
-            }
-            '"' => self.quoted(),
-            c if in_word(c) || c == '-' => self.word(),
-            c => self.one(What::Bad(format!("expected a word, a number, '{{', '}}', '->' or '\"', found '{c}'"))),
-        }
+    match word.split('.').any(str::is_empty) {
+        true => What::Bad(format!("expected a letter, a digit or '_' before and behind each '.', found '{word}'")),
+        false => What::Word(word),
     }
 }
 
-/// The first character of a line that may not stand in a table.
-pub(crate) fn hidden_in(chars: &[char]) -> Option<(usize, String)> {
-    let at = chars.iter().position(|&c| hidden(c))?;
-    Some((at, format!("expected visible text, found the hidden character U+{:04X}", chars[at] as u32)))
+fn quoted(line: &mut Line) -> What {
+    match line.quoted() {
+        Ok(name) if name.contains('\t') => {
+            What::Bad("expected visible text between the quotes, found a tab".to_string())
+        }
+        Ok(name) => What::Quoted(name),
+        Err(message) => What::Bad(message),
+    }
+}
+
+/// The token that begins at the next character.
+fn token(line: &mut Line, first: char) -> What {
+    let (what, length) = match first {
+        '"' => return quoted(line),
+        '{' => (What::Open, 1),
+        '}' => (What::Close, 1),
+        _ if line.at(&ARROW) => (What::Arrow, ARROW.len()),
+        c if in_word(c) => return word(line),
+        c => (What::Bad(format!("expected a word, a number, '{{', '}}', '->' or '\"', found '{c}'")), 1),
+    };
+    line.pass(length);
+    what
 }
 
 /// The tokens of one line; a comment is none.
 fn line_tokens(number: usize, text: &str, tokens: &mut Vec<Token>) {
-    let chars: Vec<char> = text.chars().collect();
-    if let Some((at, message)) = hidden_in(&chars) {
-        tokens.push(Token { what: What::Bad(message), place: Place { line: number, column: at + 1 } });
-        return;
-    }
-    let mut line = Line { chars: &chars, next: 0 };
-    let mut any = false;
+    let mut line = match Line::new(number, text) {
+        Ok(line) => line,
+        Err(Fault { place, message }) => return tokens.push(Token { what: What::Bad(message), place }),
+    };
+    let before = tokens.len();
     loop {
-        line.skip_blanks();
-        let place = Place { line: number, column: line.next + 1 };
+        let over = line.is_over();
+        let place = line.place();
         match line.here() {
-            Some(first) if first != '#' => tokens.push(Token { what: line.token(first), place }),
-            _ if any => return tokens.push(Token { what: What::LineEnd, place }),
+            Some(first) if !over => tokens.push(Token { what: token(&mut line, first), place }),
+            _ if tokens.len() > before => return tokens.push(Token { what: What::LineEnd, place }),
             _ => return,
         }
-        any = true;
     }
-}
-
-/// The place behind a text's last character.
-pub(crate) fn end_of(text: &str) -> Place {
-    let last = text.rsplit('\n').next().unwrap_or("");
-    Place { line: text.matches('\n').count() + 1, column: last.chars().count() + 1 }
-}
-
-/// The place of the first byte that is not UTF-8; nothing where all are.
-pub fn not_text(bytes: &[u8]) -> Option<Fault> {
-    let at = std::str::from_utf8(bytes).err()?.valid_up_to();
-    let place = end_of(&String::from_utf8_lossy(&bytes[..at]));
-    Some(Fault { place, message: format!("expected text in UTF-8, found the byte 0x{:02X}", bytes[at]) })
 }
 
 /// All tokens of a text, `FileEnd` last.
@@ -286,11 +185,9 @@ mod tests {
         ] {
             let message = format!("expected visible text, found the hidden character U+{:04X}", c as u32);
             assert_eq!(split(&format!("a \"b{c}\""))[0], at(1, 5, What::Bad(message)));
-            assert_eq!(shown(&format!("a{c}b\tc\n")), "a?b?c?");
         }
         let tab = "expected visible text between the quotes, found a tab".to_string();
         assert_eq!(split("a\t\"b\tc\"")[1], at(1, 3, What::Bad(tab)));
-        assert_eq!(shown("é \"x\" 'y'"), "é \"x\" 'y'");
     }
 
     #[test]
@@ -305,12 +202,5 @@ mod tests {
     fn a_text_without_a_last_line_end() {
         assert_eq!(split("part"), [at(1, 1, word("part")), at(1, 5, What::LineEnd), at(1, 5, What::FileEnd)]);
         assert_eq!(split(""), [at(1, 1, What::FileEnd)]);
-    }
-
-    #[test]
-    fn the_place_of_a_byte_that_is_no_text() {
-        assert_eq!(not_text(b"part\nobserver"), None);
-        let fault = not_text(b"part\n\xC3\xA9b\xFF").unwrap();
-        assert_eq!(fault.to_string(), "2:3: expected text in UTF-8, found the byte 0xFF");
     }
 }

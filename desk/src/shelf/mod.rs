@@ -10,7 +10,7 @@ use std::rc::Rc;
 use crate::part::Table;
 use crate::record::{self, counted};
 use crate::source::Source;
-use crate::tokens::Place;
+use crate::text::Place;
 
 /// The largest shelf, as of `replay`.
 pub const MAX_CAPACITY: usize = 262_144;

@@ -7,11 +7,11 @@
 //! record = file | "bytes" [ hexadecimal digits ]
 //! ```
 //!
-//! A file is a word up to the next blank or, in quotes, any text without quotes. In quotes `bytes` is a file.
+//! A file is a word up to the next blank or, in quotes, any text without quotes that is not blank. In quotes `bytes` is a file.
 
 use crate::reader::number_up_to;
 use crate::shelf::{Call, Given, Loaded, Name, Script, MAX_CAPACITY};
-use crate::tokens::{end_of, fault, hidden_in, not_text, Fault, Place};
+use crate::text::{end_of, fault, is_blank, not_text, Fault, Line, Place};
 
 /// The file that is standard input.
 const STANDARD_INPUT: &str = "-";
@@ -25,10 +25,6 @@ enum What {
 struct Word {
     what: What,
     place: Place,
-}
-
-fn is_blank(c: char) -> bool {
-    c == ' ' || c == '\t'
 }
 
 impl Word {
@@ -57,62 +53,22 @@ impl Word {
     }
 }
 
-/// One line's characters and the next to read.
-struct Line<'a> {
-    number: usize,
-    chars: &'a [char],
-    next: usize,
-}
+/// The words of a line.
+struct Words(Line);
 
-impl Line<'_> {
-    fn here(&self) -> Option<char> {
-        self.chars.get(self.next).copied()
-    }
-
-    fn place(&self) -> Place {
-        Place { line: self.number, column: self.next + 1 }
-    }
-
-    /// Takes characters while a test holds.
-    fn take(&mut self, test: fn(char) -> bool) -> String {
-        let from = self.next;
-        while self.here().is_some_and(test) {
-            self.next += 1;
-        }
-        self.chars[from..self.next].iter().collect()
-    }
-
-    /// Are there no words from here on?
-    fn is_over(&mut self) -> bool {
-        self.take(is_blank);
-        matches!(self.here(), None | Some('#'))
-    }
-
+impl Words {
     fn word(&mut self) -> Result<Word, Fault> {
-        let over = self.is_over();
-        let place = self.place();
-        let what = match self.here() {
+        let Words(line) = self;
+        let over = line.is_over();
+        let place = line.place();
+        let what = match line.here() {
             _ if over => What::LineEnd,
-            Some('"') => What::Quoted(self.quoted(place)?),
-            _ => What::Bare(self.take(|c| !is_blank(c))),
+            Some('"') => What::Quoted(line.quoted().or_else(|message| fault(place, message))?),
+            _ => return Ok(Word { what: What::Bare(line.take(|c| !is_blank(c))), place }),
         };
-        Ok(Word { what, place })
-    }
-
-    /// A name in quotes; the next character is the first quote.
-    fn quoted(&mut self, place: Place) -> Result<String, Fault> {
-        self.next += 1;
-        let name = self.take(|c| c != '"');
-        if self.here().is_none() {
-            return fault(place, "expected '\"' at the end of this name, found the end of the line".to_string());
-        }
-        self.next += 1;
-        if name.is_empty() {
-            return fault(place, "expected a name between the quotes, found none".to_string());
-        }
-        match self.here().filter(|&c| !is_blank(c)) {
-            Some(c) => fault(self.place(), format!("expected a blank behind the quotes, found '{c}'")),
-            None => Ok(name),
+        match line.here().filter(|&c| !over && !is_blank(c)) {
+            Some(c) => fault(line.place(), format!("expected a blank behind the quotes, found '{c}'")),
+            None => Ok(Word { what, place }),
         }
     }
 
@@ -191,7 +147,7 @@ impl Line<'_> {
 
     /// [ "-o" file ]; standard output has the answers.
     fn out(&mut self) -> Result<Option<Name>, Fault> {
-        if self.is_over() {
+        if self.0.is_over() {
             return Ok(None);
         }
         let option = self.word()?;
@@ -216,19 +172,15 @@ struct Reader {
 
 impl Reader {
     fn line(&mut self, number: usize, text: &str) -> Result<(), Fault> {
-        let chars: Vec<char> = text.chars().collect();
-        if let Some((at, message)) = hidden_in(&chars) {
-            return fault(Place { line: number, column: at + 1 }, message);
-        }
-        let mut line = Line { number, chars: &chars, next: 0 };
-        if line.is_over() {
+        let mut words = Words(Line::new(number, text)?);
+        if words.0.is_over() {
             return Ok(());
         }
         if self.capacity.is_none() {
-            self.capacity = Some(line.capacity()?);
+            self.capacity = Some(words.capacity()?);
             return Ok(());
         }
-        let call = line.call()?;
+        let call = words.call()?;
         self.take_standard_input(&call)?;
         self.calls.push(call);
         Ok(())

@@ -8,7 +8,7 @@ use crate::files::is_standard_input;
 use crate::trouble::Trouble;
 use desk::level::Level;
 use desk::reader;
-use desk::tokens::shown;
+use desk::text::shown;
 
 /// What a command takes.
 pub struct Form {

@@ -9,7 +9,7 @@ use crate::standard;
 use crate::trouble::Trouble;
 use desk::part::Table;
 use desk::source::{is_text, Source, MOST_OF_A_RECORD, MOST_OF_A_TEXT};
-use desk::tokens::shown;
+use desk::text::shown;
 
 /// Standard input where a file is named.
 pub fn is_standard_input(path: &Path) -> bool {

@@ -14,7 +14,7 @@ use std::process::exit;
 
 use arguments::Form;
 use commands::COMMANDS;
-use desk::tokens::shown;
+use desk::text::shown;
 use trouble::Trouble;
 
 const HELP: &str = "\
