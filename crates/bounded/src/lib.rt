@@ -1,1 +1,2 @@
 // Searches below a bound: definitions and laws only (specs/, proofs/).
+#![tactic(auto)]

@@ -1,3 +1,5 @@
 // Count and Part in numbers, for a host program.
+#![tactic(auto)]
+
 pub mod answer;
 pub mod call;

@@ -1,4 +1,6 @@
 // Join: the record writer, and the call.
+#![tactic(auto)]
+
 pub mod call;
 mod entries;
 mod places;

@@ -1,4 +1,6 @@
 // The level byte (document 01, "Levels"). Its limits and its functions belong to the type.
+#![tactic(auto)]
+
 ghost use Rattle.std.specs.Prelude.{◌≡◌, ◌<◌};
 ghost use Rattle.level.specs.Level.{rank, compartments, at_or_below, low, mislabelled};
 

@@ -1,4 +1,6 @@
 // Joins pairs of parts at the limits of a record, 64 states and 32 entries (document 01, "Examples"), and prints a line for each pair.
+#![tactic(auto)]
+
 ghost use Rattle.std.specs.Prelude.{◌+◌, ◌*◌, ◌≤◌, length};
 
 use composite::answer::{Joining, Obstacle};

@@ -1,1 +1,2 @@
 // Event machines: definitions and theorems only (specs/, proofs/).
+#![tactic(auto)]

@@ -1,4 +1,6 @@
 // The part record (document 01, "The part record"): its limits, its format by kind, and its fields.
+#![tactic(auto)]
+
 mod field;
 pub mod format;
 mod place;

@@ -1,4 +1,6 @@
 // Replays a script of calls on a shelf: a line for each call, then the shelf.
+#![tactic(auto)]
+
 ghost use Rattle.std.specs.Prelude.{◌+◌, ◌*◌, ◌≤◌, length};
 
 use input::{Input, read_all};

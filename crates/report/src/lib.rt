@@ -1,4 +1,6 @@
 // The line that is printed for a verdict, and for an input (specs/Line.antt).
+#![tactic(auto)]
+
 ghost use Rattle.std.specs.Prelude.{◌≡◌, ◌++◌, ◌≤◌, length, take, drop};
 ghost use Rattle.screening.specs.Answers.{number_of};
 ghost use Rattle.restrictive.specs.Answers.{violation_of, verdict_of};

@@ -1,4 +1,6 @@
 // Check: the five rules on the relations of a record, the first violation, and the verdict.
+#![tactic(auto)]
+
 pub mod answer;
 pub mod call;
 mod naming;

@@ -1,4 +1,6 @@
 // A replay script's operations (specs/Operation.antt).
+#![tactic(auto)]
+
 ghost use Rattle.std.specs.Prelude.{◌≡◌, ◌+◌, ◌≤◌, length};
 ghost use Rattle.words.specs.LittleEndian.{byte};
 ghost use Rattle.script.specs.Answers.{Decodes};

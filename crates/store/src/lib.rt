@@ -1,4 +1,6 @@
 // The shelf: a record store.
+#![tactic(auto)]
+
 pub mod answer;
 mod append;
 pub mod call;

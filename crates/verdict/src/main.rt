@@ -1,4 +1,6 @@
 // Reads standard input and prints its line. Of a longer input only the first bytes are judged: no record is that long, so they are refused.
+#![tactic(auto)]
+
 use input::{Input, read_all};
 use libc::{STDERR_FILENO, STDOUT_FILENO};
 
