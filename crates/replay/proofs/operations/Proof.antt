@@ -10,20 +10,20 @@ use Rattle.replay.proofs.Within.{within}
 use Rattle.replay.proofs.operations.Statement.{statement}
 use Rattle.replay.proofs.operations.Tie as tie
 
-abbrev invariant_loop : tie.invariant_loop
-invariant_loop script shelf₀ out₀ at₀ shelf out at =
+abbrev invariant-loop : tie.invariant-loop
+invariant-loop script shelf₀ out₀ at₀ shelf out at =
     (at ≤ length script) × (length shelf ≡ length shelf₀) × (length out ≡ length out₀)
 
-abbrev decreases_loop : tie.decreases_loop
-decreases_loop script shelf₀ out₀ at₀ shelf out at = length script - at
+abbrev decreases-loop : tie.decreases-loop
+decreases-loop script shelf₀ out₀ at₀ shelf out at = length script - at
 
-loop-holds : tie.Need-loop-init invariant_loop decreases_loop
+loop-holds : tie.Need-loop-init invariant-loop decreases-loop
 loop-holds c = (omega arith, refl, refl)
 
-turn-requires : tie.Need-turn-requires invariant_loop decreases_loop
+turn-requires : tie.Need-turn-requires invariant-loop decreases-loop
 turn-requires c κs = (c.before.before.loop.invariant.0, omega arith)
 
-slice-reshare-prefix-print : tie.Need-slice-reshare-prefix-print invariant_loop decreases_loop
+slice-reshare-prefix-print : tie.Need-slice-reshare-prefix-print invariant-loop decreases-loop
 slice-reshare-prefix-print c =
     let looped = c.before.before.before.before.before.before.before in
     let l = looped.loop in
@@ -31,42 +31,42 @@ slice-reshare-prefix-print c =
     let script = looped.before.before.before.before.args.script.now in
     within (turn (operation (drop l.at script)) l.shelf).line _ (done.0, done.1.0)
 
-slice-aggregate-print : tie.Need-slice-aggregate-print invariant_loop decreases_loop
+slice-aggregate-print : tie.Need-slice-aggregate-print invariant-loop decreases-loop
 slice-aggregate-print c =
     sym (length-take-le _ c.before.before.before.before.before.turn.new.1.1.1.0
     (slice-reshare-prefix-print c.before))
 
-print-requires : tie.Need-print-requires invariant_loop decreases_loop
+print-requires : tie.Need-print-requires invariant-loop decreases-loop
 print-requires c κs = tt
 
-same_length : tie.Need-same-length invariant_loop decreases_loop
+same_length : tie.Need-same-length invariant-loop decreases-loop
 same_length c = search rules
 
-same-length-2 : tie.Need-same-length-2 invariant_loop decreases_loop
+same-length-2 : tie.Need-same-length-2 invariant-loop decreases-loop
 same-length-2 c = search rules
 
-returns : tie.Need-returns invariant_loop decreases_loop
+returns : tie.Need-returns invariant-loop decreases-loop
 returns c = tt
 
-decode-requires : tie.Need-decode-requires invariant_loop decreases_loop
+decode-requires : tie.Need-decode-requires invariant-loop decreases-loop
 decode-requires c κs = c.before.before.before.before.before.before.before.before.before.before.loop.invariant.0
 
-same-length-3 : tie.Need-same-length-3 invariant_loop decreases_loop
+same-length-3 : tie.Need-same-length-3 invariant-loop decreases-loop
 same-length-3 c = search rules
 
-same-length-4 : tie.Need-same-length-4 invariant_loop decreases_loop
+same-length-4 : tie.Need-same-length-4 invariant-loop decreases-loop
 same-length-4 c = search rules
 
-returns-2 : tie.Need-returns-2 invariant_loop decreases_loop
+returns-2 : tie.Need-returns-2 invariant-loop decreases-loop
 returns-2 c = tt
 
-add_at : tie.Need-overflow-add-at invariant_loop decreases_loop
+add_at : tie.Need-overflow-add-at invariant-loop decreases-loop
 add_at c = omega (arith, c.before.decode.ensures.within)
 
-loop-less : tie.Need-loop-smaller invariant_loop decreases_loop
+loop-less : tie.Need-loop-smaller invariant-loop decreases-loop
 loop-less c = omega (arith, c.before.decode.ensures.within)
 
-loop-again : tie.Need-loop-preserved invariant_loop decreases_loop
+loop-again : tie.Need-loop-preserved invariant-loop decreases-loop
 loop-again c =
     let turned = c.before.before.before.before.before.before.before.before.before in
     let kept = turned.turn.auto in
@@ -77,8 +77,8 @@ pub operations-spec : {M : Type 1} → statement M
 operations-spec =
     tie.close
     (tie.spec
-    invariant_loop
-    decreases_loop
+    invariant-loop
+    decreases-loop
     loop-holds
     turn-requires
     slice-reshare-prefix-print

@@ -6,26 +6,26 @@ use Rattle.batch.proofs.Runs.{Made, made_none, made_end, made-room, made_further
 use Rattle.batch.proofs.run.perform_all.Statement.{statement}
 use Rattle.batch.proofs.run.perform_all.Tie as tie
 
-abbrev invariant_loop : tie.invariant_loop
-invariant_loop script shelf₀ out₀ at₀ slot₀ shelf out at slot = Made script shelf₀ out₀ shelf out at slot
+abbrev invariant-loop : tie.invariant-loop
+invariant-loop script shelf₀ out₀ at₀ slot₀ shelf out at slot = Made script shelf₀ out₀ shelf out at slot
 
-abbrev decreases_loop : tie.decreases_loop
-decreases_loop script shelf₀ out₀ at₀ slot₀ shelf out at slot = length script - at
+abbrev decreases-loop : tie.decreases-loop
+decreases-loop script shelf₀ out₀ at₀ slot₀ shelf out at slot = length script - at
 
-loop-holds : tie.Need-loop-init invariant_loop decreases_loop
+loop-holds : tie.Need-loop-init invariant-loop decreases-loop
 loop-holds c = let p = c.before.before.before.requires in made_none _ _ _ p.0 p.1
 
-perform-at-requires : tie.Need-perform-at-requires invariant_loop decreases_loop
+perform-at-requires : tie.Need-perform-at-requires invariant-loop decreases-loop
 perform-at-requires c κs =
     let l = c.before.before.before.loop in
     (l.invariant.within, made-room _ _ _ _ _ l.at l.slot l.invariant (omega arith))
 
-add-slot : tie.Need-overflow-add-slot invariant_loop decreases_loop
+add-slot : tie.Need-overflow-add-slot invariant-loop decreases-loop
 add-slot c =
     let l = c.before.before.before.before.before.before.before.before.loop in
     omega (arith, made-room _ _ _ _ _ l.at l.slot l.invariant (omega arith))
 
-loop-less : tie.Need-loop-smaller invariant_loop decreases_loop
+loop-less : tie.Need-loop-smaller invariant-loop decreases-loop
 loop-less c =
     let l = c.before.before.before.before.before.before.before.before.loop in
     omega (
@@ -34,19 +34,19 @@ loop-less c =
           c.before.before.before.before.perform-at.ensures,
     )
 
-loop-again : tie.Need-loop-preserved invariant_loop decreases_loop
+loop-again : tie.Need-loop-preserved invariant-loop decreases-loop
 loop-again c =
     let l = c.before.before.before.before.before.before.before.before.loop in
     made_next _ _ _ _ _ l.at l.slot l.invariant (omega arith) _ _ _
     c.before.before.before.before.perform-at.ensures (search rules)
 
-same_length : tie.Need-same-length invariant_loop decreases_loop
+same_length : tie.Need-same-length invariant-loop decreases-loop
 same_length c = c.before.loop.invariant.shelf-size
 
-same-length-2 : tie.Need-same-length-2 invariant_loop decreases_loop
+same-length-2 : tie.Need-same-length-2 invariant-loop decreases-loop
 same-length-2 c = c.before.loop.invariant.out_size
 
-returns : tie.Need-returns invariant_loop decreases_loop
+returns : tie.Need-returns invariant-loop decreases-loop
 returns c =
     let l = c.before.loop in
     made_end _ _ _ _ _ l.at l.slot l.invariant (omega arith)
@@ -55,8 +55,8 @@ pub perform-all-spec : {M : Type 1} → statement M
 perform-all-spec =
     tie.close
     (tie.spec
-    invariant_loop
-    decreases_loop
+    invariant-loop
+    decreases-loop
     loop-holds
     perform-at-requires
     add-slot

@@ -14,23 +14,23 @@ use Rattle.closure.proofs.writer.put_pieces.Statement.{statement}
 use Rattle.closure.proofs.writer.put_pieces.Tie as tie
 
 -- The blocks of the observers below o are laid.
-abbrev invariant_loop : tie.invariant_loop
-invariant_loop out₀ b count size o₀ out o = (o ≤ count) × (out ≡ over out₀ 0 (each o (block b)))
+abbrev invariant-loop : tie.invariant-loop
+invariant-loop out₀ b count size o₀ out o = (o ≤ count) × (out ≡ over out₀ 0 (each o (block b)))
 
-abbrev decreases_loop : tie.decreases_loop
-decreases_loop out₀ b count size o₀ out o = count - o
+abbrev decreases-loop : tie.decreases-loop
+decreases-loop out₀ b count size o₀ out o = count - o
 
-observers-requires : tie.Need-observers-requires invariant_loop decreases_loop
+observers-requires : tie.Need-observers-requires invariant-loop decreases-loop
 observers-requires c κs = frame _ c.before.before.requires.0
 
-block-size-requires : tie.Need-block-size-requires invariant_loop decreases_loop
+block-size-requires : tie.Need-block-size-requires invariant-loop decreases-loop
 block-size-requires c κs = c.before.before.before.requires.0
 
-loop-holds : tie.Need-loop-init invariant_loop decreases_loop
+loop-holds : tie.Need-loop-init invariant-loop decreases-loop
 loop-holds c = (omega arith, nothing_laid _ _ _)
 
 -- the block of the next observer has its place
-room : (c : tie.In-loop invariant_loop decreases_loop) →
+room : (c : tie.In-loop invariant-loop decreases-loop) →
     let start = c.before.before.before.before.before.before in
     let size = c.before.before.block_size.result in
     (c.before.loop.o < observers start.args.b.now)
@@ -43,10 +43,10 @@ room c =
     omega (arith, c.loop-test.true, c.before.before.before.observers.ensures) in
     (there, omega (arith, length-pieces _ a _ long, mul-le-mul_right c.before.before.block_size.result there))
 
-mul-put-block : tie.Need-overflow-mul-put-block invariant_loop decreases_loop
+mul-put-block : tie.Need-overflow-mul-put-block invariant-loop decreases-loop
 mul-put-block c = omega (arith, room c.before)
 
-put-block-requires : tie.Need-put-block-requires invariant_loop decreases_loop
+put-block-requires : tie.Need-put-block-requires invariant-loop decreases-loop
 put-block-requires c κs =
     let (there, fits) = room c.before in
     let long = c.before.before.before.block_size.ensures.0 c.before.before.loop.o in (
@@ -57,13 +57,13 @@ put-block-requires c κs =
       ),
     )
 
-add-o : tie.Need-overflow-add-o invariant_loop decreases_loop
+add-o : tie.Need-overflow-add-o invariant-loop decreases-loop
 add-o c = omega arith
 
-loop-less : tie.Need-loop-smaller invariant_loop decreases_loop
+loop-less : tie.Need-loop-smaller invariant-loop decreases-loop
 loop-less c = omega arith
 
-loop-again : tie.Need-loop-preserved invariant_loop decreases_loop
+loop-again : tie.Need-loop-preserved invariant-loop decreases-loop
 loop-again c =
     let turn = c.before.before.before.before.before in
     let size = turn.before.block_size in (
@@ -72,10 +72,10 @@ loop-again c =
           c.before.before.put-block.ensures,
     )
 
-same_length : tie.Need-same-length invariant_loop decreases_loop
+same_length : tie.Need-same-length invariant-loop decreases-loop
 same_length c = ap length c.before.loop.invariant.1 ∙ length_over _ _ _
 
-returns : tie.Need-returns invariant_loop decreases_loop
+returns : tie.Need-returns invariant-loop decreases-loop
 unfolding pieces
 returns c =
     let l = c.before.loop in
@@ -84,5 +84,5 @@ returns c =
     rw (← all) l.invariant.1
 
 pub put-pieces-spec : {M : Type 1} → statement M
-put-pieces-spec = tie.close (tie.spec invariant_loop decreases_loop observers-requires block-size-requires loop-holds mul-put-block
+put-pieces-spec = tie.close (tie.spec invariant-loop decreases-loop observers-requires block-size-requires loop-holds mul-put-block
     put-block-requires add-o loop-less loop-again same_length returns)

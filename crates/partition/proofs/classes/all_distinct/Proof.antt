@@ -10,26 +10,26 @@ use Rattle.partition.proofs.ClassSeen.{Apart, apart_none, apart_more, apart-all,
 use Rattle.partition.proofs.classes.all_distinct.Statement.{statement}
 use Rattle.partition.proofs.classes.all_distinct.Tie as tie
 
-abbrev invariant_loop : tie.invariant_loop
-invariant_loop column seen₀ s₀ seen s = (s ≤ length column) × Apart (byte column) s seen
+abbrev invariant-loop : tie.invariant-loop
+invariant-loop column seen₀ s₀ seen s = (s ≤ length column) × Apart (byte column) s seen
 
-abbrev decreases_loop : tie.decreases_loop
-decreases_loop column seen₀ s₀ seen s = length column - s
+abbrev decreases-loop : tie.decreases-loop
+decreases-loop column seen₀ s₀ seen s = length column - s
 
-loop-holds : tie.Need-loop-init invariant_loop decreases_loop
+loop-holds : tie.Need-loop-init invariant-loop decreases-loop
 loop-holds c = (omega arith, apart_none _)
 
-u8-at-requires : tie.Need-u8-at-requires invariant_loop decreases_loop
+u8-at-requires : tie.Need-u8-at-requires invariant-loop decreases-loop
 u8-at-requires c κs = search rules
 
 -- The class of a state is below 64.
-small : (c : tie.After-u8-at invariant_loop decreases_loop) → c.u8-at.result < 64
+small : (c : tie.After-u8-at invariant-loop decreases-loop) → c.u8-at.result < 64
 small c = omega (arith, c.before.before.before.before.requires.below c.before.before.loop.s (omega arith))
 
-contains-requires : tie.Need-contains-requires invariant_loop decreases_loop
+contains-requires : tie.Need-contains-requires invariant-loop decreases-loop
 contains-requires c κs = small c
 
-returns : tie.Need-returns invariant_loop decreases_loop
+returns : tie.Need-returns invariant-loop decreases-loop
 returns c = (
   λ e. absurd (true_not_false e refl),
   λ distinct.
@@ -38,19 +38,19 @@ returns c = (
       (sym c.before.contains.ensures ∙ c.if1.true) found.before.before.loop.invariant.1.seen distinct),
 )
 
-single-requires : tie.Need-single-requires invariant_loop decreases_loop
+single-requires : tie.Need-single-requires invariant-loop decreases-loop
 single-requires c κs = small c.before.before
 
-union-requires : tie.Need-union-requires invariant_loop decreases_loop
+union-requires : tie.Need-union-requires invariant-loop decreases-loop
 union-requires c κs = search rules
 
-add-s : tie.Need-overflow-add-s invariant_loop decreases_loop
+add-s : tie.Need-overflow-add-s invariant-loop decreases-loop
 add-s c = omega arith
 
-loop-less : tie.Need-loop-smaller invariant_loop decreases_loop
+loop-less : tie.Need-loop-smaller invariant-loop decreases-loop
 loop-less c = omega arith
 
-loop-again : tie.Need-loop-preserved invariant_loop decreases_loop
+loop-again : tie.Need-loop-preserved invariant-loop decreases-loop
 loop-again c =
     let asked = c.before.before.before in (
       omega arith,
@@ -59,9 +59,9 @@ loop-again c =
           (c.union.ensures ∙ ap (union _) c.before.single.ensures) asked.before.before.before.loop.invariant.1,
     )
 
-returns-2 : tie.Need-returns-2 invariant_loop decreases_loop
+returns-2 : tie.Need-returns-2 invariant-loop decreases-loop
 returns-2 c = (λ e. apart-all _ _ _ _ (omega arith) c.before.loop.invariant.1, λ distinct. refl)
 
 pub all-distinct-spec : {M : Type 1} → statement M
-all-distinct-spec = tie.close (tie.spec invariant_loop decreases_loop loop-holds u8-at-requires contains-requires returns
+all-distinct-spec = tie.close (tie.spec invariant-loop decreases-loop loop-holds u8-at-requires contains-requires returns
     single-requires union-requires add-s loop-less loop-again returns-2)

@@ -14,48 +14,48 @@ use Rattle.partition.proofs.ClassSeen.{firsts_more, firsts_equal, firsts_differ}
 use Rattle.partition.proofs.classes.classwise_equal.Statement.{statement}
 use Rattle.partition.proofs.classes.classwise_equal.Tie as tie
 
-abbrev invariant_loop : tie.invariant_loop
-invariant_loop column words firsts₀ seen₀ s₀ firsts seen s =
+abbrev invariant-loop : tie.invariant-loop
+invariant-loop column words firsts₀ seen₀ s₀ firsts seen s =
     (s ≤ length column) × Seen (byte column) s seen × Firsts (byte column) words s firsts
 
-abbrev decreases_loop : tie.decreases_loop
-decreases_loop column words firsts₀ seen₀ s₀ firsts seen s = length column - s
+abbrev decreases-loop : tie.decreases-loop
+decreases-loop column words firsts₀ seen₀ s₀ firsts seen s = length column - s
 
-loop-holds : tie.Need-loop-init invariant_loop decreases_loop
+loop-holds : tie.Need-loop-init invariant-loop decreases-loop
 loop-holds c =
     (omega arith, seen_none _, firsts_none _ c.before.before.args.words.now _ c.firsts.given.0.1)
 
-u8-at-requires : tie.Need-u8-at-requires invariant_loop decreases_loop
+u8-at-requires : tie.Need-u8-at-requires invariant-loop decreases-loop
 u8-at-requires c κs = search rules
 
 -- The class of a state is below 64.
-small : (c : tie.After-u8-at invariant_loop decreases_loop) → c.u8-at.result < 64
+small : (c : tie.After-u8-at invariant-loop decreases-loop) → c.u8-at.result < 64
 small c =
     omega (arith, c.before.before.before.before.before.requires.below c.before.before.loop.s (omega arith))
 
-contains-requires : tie.Need-contains-requires invariant_loop decreases_loop
+contains-requires : tie.Need-contains-requires invariant-loop decreases-loop
 contains-requires c κs = small c
 
-mul-firsts : tie.Need-overflow-mul-firsts invariant_loop decreases_loop
+mul-firsts : tie.Need-overflow-mul-firsts invariant-loop decreases-loop
 mul-firsts c = omega arith
 
-element-copy-out-firsts : tie.Need-element-copy-out-firsts invariant_loop decreases_loop
+element-copy-out-firsts : tie.Need-element-copy-out-firsts invariant-loop decreases-loop
 element-copy-out-firsts c = omega arith
 
-mul-firsts-2 : tie.Need-overflow-mul-firsts-2 invariant_loop decreases_loop
+mul-firsts-2 : tie.Need-overflow-mul-firsts-2 invariant-loop decreases-loop
 mul-firsts-2 c = omega arith
 
-slice-write-firsts : tie.Need-slice-write-firsts invariant_loop decreases_loop
+slice-write-firsts : tie.Need-slice-write-firsts invariant-loop decreases-loop
 slice-write-firsts c = omega (arith, small c.before.before.before)
 
-single-requires : tie.Need-single-requires invariant_loop decreases_loop
+single-requires : tie.Need-single-requires invariant-loop decreases-loop
 single-requires c κs = small c.before.before.before
 
-union-requires : tie.Need-union-requires invariant_loop decreases_loop
+union-requires : tie.Need-union-requires invariant-loop decreases-loop
 union-requires c κs = search rules
 
 -- Where the arms of the first test meet, the class of the state has been seen.
-ready : (c : tie.Joined1 invariant_loop decreases_loop)
+ready : (c : tie.Joined1 invariant-loop decreases-loop)
     → let args = c.before.before.before.before.before.before.before.args in
     let s = c.before.before.before.before.loop.s in
     Seen (byte args.column.now) (s + 1) c.if1.seen × Firsts (byte args.column.now) args.words.now s
@@ -73,19 +73,19 @@ ready c =
     (λ w. (rw w.2 (seen_kept _ _ _ _ of-class (has ∙ not-false _ w.0.left) seen), rw w.1 firsts))
     c.if1.branch
 
-mul-if2 : tie.Need-overflow-mul-if2 invariant_loop decreases_loop
+mul-if2 : tie.Need-overflow-mul-if2 invariant-loop decreases-loop
 mul-if2 c = omega arith
 
-slice-read-if2 : tie.Need-slice-read-if2 invariant_loop decreases_loop
+slice-read-if2 : tie.Need-slice-read-if2 invariant-loop decreases-loop
 slice-read-if2 c = omega (arith, small c.before.before.before, (ready c.before).1.size)
 
-mul-if2-2 : tie.Need-overflow-mul-if2-2 invariant_loop decreases_loop
+mul-if2-2 : tie.Need-overflow-mul-if2-2 invariant-loop decreases-loop
 mul-if2-2 c = omega arith
 
-element-copy-out-if2 : tie.Need-element-copy-out-if2 invariant_loop decreases_loop
+element-copy-out-if2 : tie.Need-element-copy-out-if2 invariant-loop decreases-loop
 element-copy-out-if2 c = omega arith
 
-returns : tie.Need-returns invariant_loop decreases_loop
+returns : tie.Need-returns invariant-loop decreases-loop
 returns c =
     let met = c.before.before.before in
     let turn = met.before.before.before.before.loop in
@@ -105,13 +105,13 @@ returns c =
           met.if1.branch),
     )
 
-add-s : tie.Need-overflow-add-s invariant_loop decreases_loop
+add-s : tie.Need-overflow-add-s invariant-loop decreases-loop
 add-s c = omega arith
 
-loop-less : tie.Need-loop-smaller invariant_loop decreases_loop
+loop-less : tie.Need-loop-smaller invariant-loop decreases-loop
 loop-less c = omega arith
 
-loop-again : tie.Need-loop-preserved invariant_loop decreases_loop
+loop-again : tie.Need-loop-preserved invariant-loop decreases-loop
 loop-again c =
     let met = c.before.before.before in
     let words = met.before.before.before.before.before.before.before.args.words.now in (
@@ -121,7 +121,7 @@ loop-again c =
           (ready met).1,
     )
 
-returns-2 : tie.Need-returns-2 invariant_loop decreases_loop
+returns-2 : tie.Need-returns-2 invariant-loop decreases-loop
 returns-2 c =
     let start = c.before.before.before.before in (
       λ e. firsts_equal _ start.args.words.now _ _ _ (omega arith) start.requires.below c.before.loop.invariant.2,
@@ -129,6 +129,6 @@ returns-2 c =
     )
 
 pub classwise-equal-spec : {M : Type 1} → statement M
-classwise-equal-spec = tie.close (tie.spec invariant_loop decreases_loop loop-holds u8-at-requires contains-requires mul-firsts
+classwise-equal-spec = tie.close (tie.spec invariant-loop decreases-loop loop-holds u8-at-requires contains-requires mul-firsts
     element-copy-out-firsts mul-firsts-2 slice-write-firsts single-requires union-requires mul-if2 slice-read-if2
     mul-if2-2 element-copy-out-if2 returns add-s loop-less loop-again returns-2)

@@ -10,42 +10,42 @@ use Rattle.relations.proofs.Concerned.{is_input, is_unseen, concerned-all}
 use Rattle.relations.proofs.event.concerned.Statement.{statement}
 use Rattle.relations.proofs.event.concerned.Tie as tie
 
-abbrev invariant_loop : tie.invariant_loop
-invariant_loop b observer m inputs₀ seen₀ unseen₀ i₀ inputs seen unseen i =
+abbrev invariant-loop : tie.invariant-loop
+invariant-loop b observer m inputs₀ seen₀ unseen₀ i₀ inputs seen unseen i =
     (i ≤ m) × Marked (is_input b observer) i inputs × Marked (seen_at b observer) i seen
     × Marked (is_unseen b observer) i unseen
 
-abbrev decreases_loop : tie.decreases_loop
-decreases_loop b observer m inputs₀ seen₀ unseen₀ i₀ inputs seen unseen i = m - i
+abbrev decreases-loop : tie.decreases-loop
+decreases-loop b observer m inputs₀ seen₀ unseen₀ i₀ inputs seen unseen i = m - i
 
-events-requires : tie.Need-events-requires invariant_loop decreases_loop
+events-requires : tie.Need-events-requires invariant-loop decreases-loop
 events-requires c κs = omega arith
 
-loop-holds : tie.Need-loop-init invariant_loop decreases_loop
+loop-holds : tie.Need-loop-init invariant-loop decreases-loop
 loop-holds c = (omega arith, marked_none _, marked_none _, marked_none _)
 
-is-seen-requires : tie.Need-is-seen-requires invariant_loop decreases_loop
+is-seen-requires : tie.Need-is-seen-requires invariant-loop decreases-loop
 is-seen-requires c κs = (c.before.before.before.before.requires, omega arith)
 
-event-kind-requires : tie.Need-event-kind-requires invariant_loop decreases_loop
+event-kind-requires : tie.Need-event-kind-requires invariant-loop decreases-loop
 event-kind-requires c κs = (c.before.before.before.before.before.requires, omega arith)
 
-mark-requires : tie.Need-mark-requires invariant_loop decreases_loop
+mark-requires : tie.Need-mark-requires invariant-loop decreases-loop
 mark-requires c κs = omega arith
 
-mark-requires-2 : tie.Need-mark-requires-2 invariant_loop decreases_loop
+mark-requires-2 : tie.Need-mark-requires-2 invariant-loop decreases-loop
 mark-requires-2 c κs = omega arith
 
-mark-requires-3 : tie.Need-mark-requires-3 invariant_loop decreases_loop
+mark-requires-3 : tie.Need-mark-requires-3 invariant-loop decreases-loop
 mark-requires-3 c κs = omega arith
 
-add-i : tie.Need-overflow-add-i invariant_loop decreases_loop
+add-i : tie.Need-overflow-add-i invariant-loop decreases-loop
 add-i c = omega arith
 
-loop-less : tie.Need-loop-smaller invariant_loop decreases_loop
+loop-less : tie.Need-loop-smaller invariant-loop decreases-loop
 loop-less c = omega arith
 
-loop-again : tie.Need-loop-preserved invariant_loop decreases_loop
+loop-again : tie.Need-loop-preserved invariant-loop decreases-loop
 loop-again c =
     let one = c.before.before in
     let test = one.before.before in
@@ -57,31 +57,31 @@ loop-again c =
       marked_more _ _ _ _ _ (ap not sees) unseen c.mark3.ensures,
     )
 
-intersection-requires : tie.Need-intersection-requires invariant_loop decreases_loop
+intersection-requires : tie.Need-intersection-requires invariant-loop decreases-loop
 intersection-requires c κs = tt
 
-array-write-sets : tie.Need-array-write-sets invariant_loop decreases_loop
+array-write-sets : tie.Need-array-write-sets invariant-loop decreases-loop
 array-write-sets c = omega arith
 
-intersection-requires-2 : tie.Need-intersection-requires-2 invariant_loop decreases_loop
+intersection-requires-2 : tie.Need-intersection-requires-2 invariant-loop decreases-loop
 intersection-requires-2 c κs = tt
 
-array-write-sets-2 : tie.Need-array-write-sets-2 invariant_loop decreases_loop
+array-write-sets-2 : tie.Need-array-write-sets-2 invariant-loop decreases-loop
 array-write-sets-2 c = omega arith
 
-difference-requires : tie.Need-difference-requires invariant_loop decreases_loop
+difference-requires : tie.Need-difference-requires invariant-loop decreases-loop
 difference-requires c κs = tt
 
-array-write-sets-3 : tie.Need-array-write-sets-3 invariant_loop decreases_loop
+array-write-sets-3 : tie.Need-array-write-sets-3 invariant-loop decreases-loop
 array-write-sets-3 c = omega arith
 
-difference-requires-2 : tie.Need-difference-requires-2 invariant_loop decreases_loop
+difference-requires-2 : tie.Need-difference-requires-2 invariant-loop decreases-loop
 difference-requires-2 c κs = tt
 
-array-write-sets-4 : tie.Need-array-write-sets-4 invariant_loop decreases_loop
+array-write-sets-4 : tie.Need-array-write-sets-4 invariant-loop decreases-loop
 array-write-sets-4 c = omega arith
 
-returns : tie.Need-returns invariant_loop decreases_loop
+returns : tie.Need-returns invariant-loop decreases-loop
 returns c =
     let sets = c.before.before.before in
     let loop = sets.before.before in
@@ -93,7 +93,7 @@ returns c =
     c.difference2.ensures
 
 pub concerned-spec : {M : Type 1} → statement M
-concerned-spec = tie.close (tie.spec invariant_loop decreases_loop events-requires loop-holds is-seen-requires
+concerned-spec = tie.close (tie.spec invariant-loop decreases-loop events-requires loop-holds is-seen-requires
     event-kind-requires mark-requires mark-requires-2 mark-requires-3 add-i loop-less loop-again intersection-requires
     array-write-sets intersection-requires-2 array-write-sets-2 difference-requires array-write-sets-3
     difference-requires-2 array-write-sets-4 returns)

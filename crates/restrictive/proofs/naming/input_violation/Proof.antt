@@ -12,17 +12,17 @@ use Rattle.restrictive.proofs.Offers.{stepless, has_step}
 use Rattle.restrictive.proofs.naming.input_violation.Statement.{statement}
 use Rattle.restrictive.proofs.naming.input_violation.Tie as tie
 
-abbrev invariant_loop : tie.invariant_loop
-invariant_loop b column case event s₀ s =
+abbrev invariant-loop : tie.invariant-loop
+invariant-loop b column case event s₀ s =
     (s ≤ length column) × (first s (state_violation b (observer_in column column case) 0 case.event) ≡ none)
 
-abbrev decreases_loop : tie.decreases_loop
-decreases_loop b column case event s₀ s = length column - s
+abbrev decreases-loop : tie.decreases-loop
+decreases-loop b column case event s₀ s = length column - s
 
-enabled-requires : tie.Need-enabled-requires invariant_loop decreases_loop
+enabled-requires : tie.Need-enabled-requires invariant-loop decreases-loop
 enabled-requires c κs = let pre = c.before.before.requires in (pre.0.framed, pre.1.0.0)
 
-returns : tie.Need-returns invariant_loop decreases_loop
+returns : tie.Need-returns invariant-loop decreases-loop
 unfolding found_of event_violation
 returns c =
     let pre = c.before.before.before.before.requires in
@@ -30,19 +30,19 @@ returns c =
     has_step _ _ _ s pre.1.1 (λ t l. pre.0.within _ _ t pre.1.0.0 h l)
     (c.before.enabled.ensures.0 c.if1.true s h)))
 
-loop-holds : tie.Need-loop-init invariant_loop decreases_loop
+loop-holds : tie.Need-loop-init invariant-loop decreases-loop
 unfolding first
 loop-holds c = (omega arith, refl)
 
-row-requires : tie.Need-row-requires invariant_loop decreases_loop
+row-requires : tie.Need-row-requires invariant-loop decreases-loop
 row-requires c κs = let pre = c.before.before.before.before.before.before.requires in
     (pre.0.framed, (pre.1.0.0, omega (arith, pre.0.sized)))
 
-violation-requires : tie.Need-violation-requires invariant_loop decreases_loop
+violation-requires : tie.Need-violation-requires invariant-loop decreases-loop
 violation-requires c κs = let pre = c.before.before.before.before.before.before.before.before.requires in
     (pre.0.framed, (pre.1.0.0, omega (arith, pre.1.0.1)))
 
-returns-2 : tie.Need-returns-2 invariant_loop decreases_loop
+returns-2 : tie.Need-returns-2 invariant-loop decreases-loop
 unfolding found_of event_violation
 returns-2 c =
     let turn = c.before.before.before.before in
@@ -53,13 +53,13 @@ returns-2 c =
     (stepless _ _ _ _ pre.1.1 pre.0.framed.one_state
     (sym c.before.before.row.ensures ∙ c.before.if2.true)))
 
-add-s : tie.Need-overflow-add-s invariant_loop decreases_loop
+add-s : tie.Need-overflow-add-s invariant-loop decreases-loop
 add-s c = omega arith
 
-loop-less : tie.Need-loop-smaller invariant_loop decreases_loop
+loop-less : tie.Need-loop-smaller invariant-loop decreases-loop
 loop-less c = omega arith
 
-loop-again : tie.Need-loop-preserved invariant_loop decreases_loop
+loop-again : tie.Need-loop-preserved invariant-loop decreases-loop
 loop-again c =
     let turn = c.before.before.before in
     let pre = turn.before.before.before.before.before.requires in
@@ -70,12 +70,12 @@ loop-again c =
           (λ e. c.if2.false (c.before.row.ensures ∙ e))),
     )
 
-returns-3 : tie.Need-returns-3 invariant_loop decreases_loop
+returns-3 : tie.Need-returns-3 invariant-loop decreases-loop
 unfolding found_of event_violation
 returns-3 c =
     sym (first_done _ _ _ (omega (arith, c.before.before.before.before.before.before.requires.0.sized))
     c.before.loop.invariant.1)
 
 pub input-violation-spec : {M : Type 1} → statement M
-input-violation-spec = tie.close (tie.spec invariant_loop decreases_loop enabled-requires returns loop-holds row-requires
+input-violation-spec = tie.close (tie.spec invariant-loop decreases-loop enabled-requires returns loop-holds row-requires
     violation-requires returns-2 add-s loop-less loop-again returns-3)

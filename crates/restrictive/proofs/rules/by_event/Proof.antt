@@ -8,23 +8,23 @@ use Rattle.restrictive.proofs.EventScans.{open_found, open_next, open_none}
 use Rattle.restrictive.proofs.rules.by_event.Statement.{statement}
 use Rattle.restrictive.proofs.rules.by_event.Tie as tie
 
-abbrev invariant_loop : tie.invariant_loop
-invariant_loop b observer column fine rule concerned silently closure table scratch₀ offers₀ rest₀ scratch offers rest =
+abbrev invariant-loop : tie.invariant-loop
+invariant-loop b observer column fine rule concerned silently closure table scratch₀ offers₀ rest₀ scratch offers rest =
     Open b (observing observer column fine) rule concerned rest
 
-abbrev decreases_loop : tie.decreases_loop
-decreases_loop b observer column fine rule concerned silently closure table scratch₀ offers₀ rest₀ scratch offers rest = rest
+abbrev decreases-loop : tie.decreases-loop
+decreases-loop b observer column fine rule concerned silently closure table scratch₀ offers₀ rest₀ scratch offers rest = rest
 
-loop-holds : tie.Need-loop-init invariant_loop decreases_loop
+loop-holds : tie.Need-loop-init invariant-loop decreases-loop
 loop-holds c =
     let start = c.before.before.before in
     open_all (record { last = start.requires.1.0.1; of = start.requires.1.1.0 }) start.ranges.concerned.fits
 
-lowest-requires : tie.Need-lowest-requires invariant_loop decreases_loop
+lowest-requires : tie.Need-lowest-requires invariant-loop decreases-loop
 lowest-requires c κs = tt
 
 -- the event that is looked at
-event : (c : tie.After-lowest invariant_loop decreases_loop) → let a = c.before.before.before.before.before.before.args in
+event : (c : tie.After-lowest invariant-loop decreases-loop) → let a = c.before.before.before.before.before.before.args in
     Next a.b.now (observing a.observer a.column.now a.fine.now) a.rule a.concerned
     c.before.before.loop.rest
     c.lowest.result
@@ -38,48 +38,48 @@ event c =
       low = c.lowest.ensures;
     }
 
-put-offers-requires : tie.Need-put-offers-requires invariant_loop decreases_loop
+put-offers-requires : tie.Need-put-offers-requires invariant-loop decreases-loop
 put-offers-requires c κs =
     let low = c.before.before in
     let pre = low.before.before.before.before.before.before.requires in
     (coarsely pre.0, (open_below (event low), pre.1.1.1))
 
-by-offers-requires : tie.Need-by-offers-requires invariant_loop decreases_loop
+by-offers-requires : tie.Need-by-offers-requires invariant-loop decreases-loop
 by-offers-requires c κs =
     let low = c.before.before.before.before.before in
     let pre = low.before.before.before.before.before.before.requires in
     let made = c.before.before.put-offers.ensures.words in
     (pre.0, (pre.1.0, (open_below (event low), (open_speaks (event low), made))))
 
-enum_told : tie.Need-enum-told invariant_loop decreases_loop
+enum_told : tie.Need-enum-told invariant-loop decreases-loop
 enum_told c = search rules
 
-returns : tie.Need-returns invariant_loop decreases_loop
+returns : tie.Need-returns invariant-loop decreases-loop
 returns c =
     open_found (event c.before.before.before.before.before.before.before.before) _ _
     c.before.before.by-offers.ensures c.enum_told.given.1
 
-enum-told-2 : tie.Need-enum-told-2 invariant_loop decreases_loop
+enum-told-2 : tie.Need-enum-told-2 invariant-loop decreases-loop
 enum-told-2 c = search rules
 
-drop-lowest-requires : tie.Need-drop-lowest-requires invariant_loop decreases_loop
+drop-lowest-requires : tie.Need-drop-lowest-requires invariant-loop decreases-loop
 drop-lowest-requires c κs = c.before.before.before.before.before.before.before.before.before.loop-test.true
 
-loop-less : tie.Need-loop-smaller invariant_loop decreases_loop
+loop-less : tie.Need-loop-smaller invariant-loop decreases-loop
 loop-less c =
     rw c.drop-lowest.ensures
     (without_less _ _
     c.before.before.before.before.before.before.before.before.before.before.loop-test.true)
 
-loop-again : tie.Need-loop-preserved invariant_loop decreases_loop
+loop-again : tie.Need-loop-preserved invariant-loop decreases-loop
 loop-again c =
     open_next (event c.before.before.before.before.before.before.before.before.before) _ _
     c.before.before.before.by-offers.ensures c.before.enum-told2.given.1 c.drop-lowest.ensures
 
-returns-2 : tie.Need-returns-2 invariant_loop decreases_loop
+returns-2 : tie.Need-returns-2 invariant-loop decreases-loop
 unfolding found_of
 returns-2 c = open_none _ _ _ c.before.loop.invariant c.loop-test.false
 
 pub by-event-spec : {M : Type 1} → statement M
-by-event-spec = tie.close (tie.spec invariant_loop decreases_loop loop-holds lowest-requires put-offers-requires by-offers-requires
+by-event-spec = tie.close (tie.spec invariant-loop decreases-loop loop-holds lowest-requires put-offers-requires by-offers-requires
     enum_told returns enum-told-2 drop-lowest-requires loop-less loop-again returns-2)

@@ -13,21 +13,21 @@ use native.Mathlib.Omega.{arith}
 use Rattle.screening.proofs.rejection.unnumbered.Statement.{statement}
 use Rattle.screening.proofs.rejection.unnumbered.Tie as tie
 
-abbrev invariant_loop : tie.invariant_loop
-invariant_loop column count₀ s₀ count s =
+abbrev invariant-loop : tie.invariant-loop
+invariant-loop column count₀ s₀ count s =
     (s ≤ length column) × (count ≡ classes_below column s) × (any s (skips_at column) ≡ false)
 
-abbrev decreases_loop : tie.decreases_loop
-decreases_loop column count₀ s₀ count s = length column - s
+abbrev decreases-loop : tie.decreases-loop
+decreases-loop column count₀ s₀ count s = length column - s
 
-loop-holds : tie.Need-loop-init invariant_loop decreases_loop
+loop-holds : tie.Need-loop-init invariant-loop decreases-loop
 unfolding any classes_below
 loop-holds c = (omega arith, refl, refl)
 
-u8-at-requires : tie.Need-u8-at-requires invariant_loop decreases_loop
+u8-at-requires : tie.Need-u8-at-requires invariant-loop decreases-loop
 u8-at-requires c κs = omega arith
 
-returns : tie.Need-returns invariant_loop decreases_loop
+returns : tie.Need-returns invariant-loop decreases-loop
 unfolding unnumbered skips_at
 returns c =
     let loop = c.before.before.before in
@@ -35,16 +35,16 @@ returns c =
     let s = loop.loop.s in
     scan_hit (skips_at column) _ s (omega arith) (lt-ltb (classes_below column s) (byte column s) (omega arith))
 
-classes-with-requires : tie.Need-classes-with-requires invariant_loop decreases_loop
+classes-with-requires : tie.Need-classes-with-requires invariant-loop decreases-loop
 classes-with-requires c κs = c.before.u8-at.ensures.1
 
-add-s : tie.Need-overflow-add-s invariant_loop decreases_loop
+add-s : tie.Need-overflow-add-s invariant-loop decreases-loop
 add-s c = omega arith
 
-loop-less : tie.Need-loop-smaller invariant_loop decreases_loop
+loop-less : tie.Need-loop-smaller invariant-loop decreases-loop
 loop-less c = omega arith
 
-loop-again : tie.Need-loop-preserved invariant_loop decreases_loop
+loop-again : tie.Need-loop-preserved invariant-loop decreases-loop
 unfolding skips_at
 loop-again c =
     let loop = c.before.before.before.before in
@@ -57,10 +57,10 @@ loop-again c =
           (le-ltb (classes_below column s) (byte column s) (omega arith)),
     )
 
-returns-2 : tie.Need-returns-2 invariant_loop decreases_loop
+returns-2 : tie.Need-returns-2 invariant-loop decreases-loop
 unfolding unnumbered
 returns-2 c = scan_done _ _ _ (omega arith) c.before.loop.invariant.2
 
 pub unnumbered-spec : {M : Type 1} → statement M
-unnumbered-spec = tie.close (tie.spec invariant_loop decreases_loop loop-holds u8-at-requires returns classes-with-requires add-s
+unnumbered-spec = tie.close (tie.spec invariant-loop decreases-loop loop-holds u8-at-requires returns classes-with-requires add-s
     loop-less loop-again returns-2)

@@ -7,46 +7,46 @@ use Rattle.store.proofs.Steps.{Walked, walked_none, walked_by, walked_length, wa
 use Rattle.store.proofs.record.extent.Statement.{statement}
 use Rattle.store.proofs.record.extent.Tie as tie
 
-abbrev invariant_loop : tie.invariant_loop
-invariant_loop s i at₀ k₀ at k = (k ≤ i) × Walked s at k
+abbrev invariant-loop : tie.invariant-loop
+invariant-loop s i at₀ k₀ at k = (k ≤ i) × Walked s at k
 
-abbrev decreases_loop : tie.decreases_loop
-decreases_loop s i at₀ k₀ at k = i - k
+abbrev decreases-loop : tie.decreases-loop
+decreases-loop s i at₀ k₀ at k = i - k
 
-loop-holds : tie.Need-loop-init invariant_loop decreases_loop
+loop-holds : tie.Need-loop-init invariant-loop decreases-loop
 loop-holds c = (omega arith, walked_none _)
 
 -- A record stands there, and the walk goes on behind it.
-next : (c : tie.At-loop invariant_loop decreases_loop)
+next : (c : tie.At-loop invariant-loop decreases-loop)
     → Walked c.before.before.args.s.now
     (c.loop.at + (6 + number 4 c.before.before.args.s.now c.loop.at)) (c.loop.k + 1)
 next c = walked_by _ _ _ _ c.loop.invariant.1 c.before.before.requires.0 (omega arith)
 
-u32-at-requires : tie.Need-u32-at-requires invariant_loop decreases_loop
+u32-at-requires : tie.Need-u32-at-requires invariant-loop decreases-loop
 u32-at-requires c κs = omega (arith, (next c.before).within)
 
-add_at : tie.Need-overflow-add-at invariant_loop decreases_loop
+add_at : tie.Need-overflow-add-at invariant-loop decreases-loop
 add_at c = omega arith
 
-add-at-2 : tie.Need-overflow-add-at-2 invariant_loop decreases_loop
+add-at-2 : tie.Need-overflow-add-at-2 invariant-loop decreases-loop
 add-at-2 c = omega (arith, (next c.before.before).within, c.u32-at.ensures.0)
 
-add-k : tie.Need-overflow-add-k invariant_loop decreases_loop
+add-k : tie.Need-overflow-add-k invariant-loop decreases-loop
 add-k c = omega arith
 
-loop-less : tie.Need-loop-smaller invariant_loop decreases_loop
+loop-less : tie.Need-loop-smaller invariant-loop decreases-loop
 loop-less c = omega arith
 
-loop-again : tie.Need-loop-preserved invariant_loop decreases_loop
+loop-again : tie.Need-loop-preserved invariant-loop decreases-loop
 loop-again c = (omega arith, rw c.u32-at.ensures.0 (next c.before.before))
 
-u32-at-requires-2 : tie.Need-u32-at-requires-2 invariant_loop decreases_loop
+u32-at-requires-2 : tie.Need-u32-at-requires-2 invariant-loop decreases-loop
 u32-at-requires-2 c κs = omega (arith, (next c.before).within)
 
-add-size : tie.Need-overflow-add-size invariant_loop decreases_loop
+add-size : tie.Need-overflow-add-size invariant-loop decreases-loop
 add-size c = omega arith
 
-returns : tie.Need-returns invariant_loop decreases_loop
+returns : tie.Need-returns invariant-loop decreases-loop
 unfolding part
 returns c =
     let l = c.before.before.loop in
@@ -63,8 +63,8 @@ pub extent-spec : {M : Type 1} → statement M
 extent-spec =
     tie.close
     (tie.spec
-    invariant_loop
-    decreases_loop
+    invariant-loop
+    decreases-loop
     loop-holds
     u32-at-requires
     add_at

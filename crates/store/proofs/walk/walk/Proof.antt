@@ -10,44 +10,44 @@ use Rattle.store.proofs.Steps.{Walked, walked_none, walked_next, walked_end, wal
 use Rattle.store.proofs.walk.walk.Statement.{statement}
 use Rattle.store.proofs.walk.walk.Tie as tie
 
-abbrev invariant_loop : tie.invariant_loop
-invariant_loop s at₀ n₀ at n = Walked s at n
+abbrev invariant-loop : tie.invariant-loop
+invariant-loop s at₀ n₀ at n = Walked s at n
 
-abbrev decreases_loop : tie.decreases_loop
-decreases_loop s at₀ n₀ at n = length s - at
+abbrev decreases-loop : tie.decreases-loop
+decreases-loop s at₀ n₀ at n = length s - at
 
-loop-holds : tie.Need-loop-init invariant_loop decreases_loop
+loop-holds : tie.Need-loop-init invariant-loop decreases-loop
 loop-holds c = walked_none _
 
-front-requires : tie.Need-front-requires invariant_loop decreases_loop
+front-requires : tie.Need-front-requires invariant-loop decreases-loop
 front-requires c κs = c.loop.invariant.within
 
-enum_told : tie.Need-enum-told invariant_loop decreases_loop
+enum_told : tie.Need-enum-told invariant-loop decreases-loop
 enum_told c = search rules
 
-returns : tie.Need-returns invariant_loop decreases_loop
+returns : tie.Need-returns invariant-loop decreases-loop
 unfolding front_of
 returns c =
     let l = c.before.before.before.loop in
     walked_end _ l.at l.n l.invariant
     (sym c.before.before.front.ensures ∙ ap front_of c.enum_told.given.1)
 
-enum-told-2 : tie.Need-enum-told-2 invariant_loop decreases_loop
+enum-told-2 : tie.Need-enum-told-2 invariant-loop decreases-loop
 enum-told-2 c = search rules
 
-returns-2 : tie.Need-returns-2 invariant_loop decreases_loop
+returns-2 : tie.Need-returns-2 invariant-loop decreases-loop
 unfolding front_of
 returns-2 c =
     let l = c.before.before.before.loop in
     walked_stuck _ l.at l.n l.invariant
     (sym c.before.before.front.ensures ∙ ap front_of c.enum-told2.given.1)
 
-enum-known-standing : tie.Need-enum-known-standing invariant_loop decreases_loop
+enum-known-standing : tie.Need-enum-known-standing invariant-loop decreases-loop
 enum-known-standing c = search rules
 
 -- The record that stands there, and the walk behind it.
-module _ (c : tie.After-standing invariant_loop decreases_loop) where
-  abbrev looped : tie.At-loop invariant_loop decreases_loop
+module _ (c : tie.After-standing invariant-loop decreases-loop) where
+  abbrev looped : tie.At-loop invariant-loop decreases-loop
   looped = c.before.before.before
 
   stood : front (drop looped.loop.at looped.before.before.args.s.now) ≡ record_of c.standing.given.0.0
@@ -58,24 +58,24 @@ module _ (c : tie.After-standing invariant_loop decreases_loop) where
       (looped.loop.at + c.standing.given.0.0) (looped.loop.n + 1)
   next = walked_next _ _ _ _ looped.loop.inv stood
 
-add_at : tie.Need-overflow-add-at invariant_loop decreases_loop
+add_at : tie.Need-overflow-add-at invariant-loop decreases-loop
 add_at c = omega (arith, (next c.before).within)
 
-add-n : tie.Need-overflow-add-n invariant_loop decreases_loop
+add-n : tie.Need-overflow-add-n invariant-loop decreases-loop
 add-n c = omega (arith, (next c.before).fewer, (next c.before).within)
 
-loop-less : tie.Need-loop-smaller invariant_loop decreases_loop
+loop-less : tie.Need-loop-smaller invariant-loop decreases-loop
 loop-less c = omega (arith, (record-whole _ _ (stood c.before)).size, (next c.before).within)
 
-loop-again : tie.Need-loop-preserved invariant_loop decreases_loop
+loop-again : tie.Need-loop-preserved invariant-loop decreases-loop
 loop-again c = next c.before
 
 pub walk-spec : {M : Type 1} → statement M
 walk-spec =
     tie.close
     (tie.spec
-    invariant_loop
-    decreases_loop
+    invariant-loop
+    decreases-loop
     loop-holds
     front-requires
     enum_told

@@ -7,25 +7,25 @@ use Rattle.text.proofs.Decimals.{length_one, length_more, length_word}
 use Rattle.text.proofs.decimal.digits.Statement.{statement}
 use Rattle.text.proofs.decimal.digits.Tie as tie
 
-abbrev invariant_loop : tie.invariant_loop
-invariant_loop n count₀ rest₀ count rest = (count + length (decimal rest) ≡ length (decimal n) + 1) × (rest < 2 ^ 64)
+abbrev invariant-loop : tie.invariant-loop
+invariant-loop n count₀ rest₀ count rest = (count + length (decimal rest) ≡ length (decimal n) + 1) × (rest < 2 ^ 64)
 
-abbrev decreases_loop : tie.decreases_loop
-decreases_loop n count₀ rest₀ count rest = rest
+abbrev decreases-loop : tie.decreases-loop
+decreases-loop n count₀ rest₀ count rest = rest
 
-loop-holds : tie.Need-loop-init invariant_loop decreases_loop
+loop-holds : tie.Need-loop-init invariant-loop decreases-loop
 loop-holds c = omega arith
 
-add-count : tie.Need-overflow-add-count invariant_loop decreases_loop
+add-count : tie.Need-overflow-add-count invariant-loop decreases-loop
 add-count c = omega (arith, length_word c.before.before.args.n (omega arith))
 
-loop-less : tie.Need-loop-smaller invariant_loop decreases_loop
+loop-less : tie.Need-loop-smaller invariant-loop decreases-loop
 loop-less c = omega arith
 
-loop-again : tie.Need-loop-preserved invariant_loop decreases_loop
+loop-again : tie.Need-loop-preserved invariant-loop decreases-loop
 loop-again c = omega (arith, length_more c.before.loop.rest (omega arith))
 
-returns : tie.Need-returns invariant_loop decreases_loop
+returns : tie.Need-returns invariant-loop decreases-loop
 returns c =
     omega (
       arith,
@@ -36,4 +36,4 @@ returns c =
 
 pub digits-spec : {M : Type 1} → statement M
 digits-spec =
-    tie.close (tie.spec invariant_loop decreases_loop loop-holds add-count loop-less loop-again returns)
+    tie.close (tie.spec invariant-loop decreases-loop loop-holds add-count loop-less loop-again returns)
