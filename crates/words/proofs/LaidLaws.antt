@@ -58,7 +58,7 @@ over-part out k at [] = take-append-drop k _
 over-part out k at (x ∷ a) =
     let stored = set out (k + at) x in
     let e : k + suc at ≡ suc (k + at) = omega arith in
-    rw (← take-set-le k _ (k + at) x (le-add_right k at), ← drop-set-add k out at x) (over-part _ k _ a
+    rw (← take-set-le k _ (k + at) x (le-add_right k at), ← drop-set-add k out at x) (over-part stored k _ a
     ∙ ap (λ (i : ℕ). sets stored i a) e)
 
 -- A number in two parts, its low bytes first.

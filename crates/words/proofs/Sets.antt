@@ -325,7 +325,7 @@ bit-without x (suc t) zero m =
 bit-without x (suc t) (suc u) m =
     let l = member_le x _ m in
     let half : (x - 2 ^ suc t) / 2 ≡ x / 2 - 2 ^ t = omega arith in
-    bit_next _ u ∙ rw half (bit-without _ t u (sym (bit_next x t) ∙ m)
+    bit_next _ u ∙ rw half (bit-without (x / 2) t u (sym (bit_next x t) ∙ m)
     ∙ ap (λ (b : Bool). b && not (eqb t u)) (sym (bit_next x u))
     ∙ ap (λ (b : Bool). bit x (suc u) && not b) (sym (eqb-suc-suc t u)))
 
@@ -346,7 +346,7 @@ trailing (suc k) x h n = go (trailing k _) _ refl
         let r = rest (omega arith) (λ z. n (omega arith)) in (
           record {
             member = bit_next x _ ∙ r.0.member;
-            least = λ u. elim u
+            least = λ u. elim u as (λ (v : ℕ). v < under zero (count_trailing_zeros k (x / 2)) → bit x v ≡ false)
                 [ zero ↦ λ l. bit-first x ∙ rw e | suc v ↦ λ l. bit_next x v ∙ r.0.least v (omega arith) ];
           },
           omega arith,
