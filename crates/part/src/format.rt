@@ -1,7 +1,7 @@
 // The counts on which a record's format depends (specs/Format.antt).
 
 // What a record of some kind has besides its table.
-#[derive(Drop)]
+#[derive(Clone, Copy)]
 pub struct Form {
     // How many observers it has, and where their levels begin.
     pub observers: usize,
@@ -14,7 +14,7 @@ pub struct Form {
 }
 
 // The form, and how many states and how many events a part has.
-#[derive(Drop)]
+#[derive(Clone, Copy)]
 pub struct Counts {
     pub form: Form,
     pub states: usize,

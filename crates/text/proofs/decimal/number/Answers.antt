@@ -35,9 +35,9 @@ pub returns-clause-laid : goal.returns-clause-laid
 returns-clause-laid c =
     let at = c.args.at in
     record {
-        text =
-            ap (set c.loop-rest.out c.loop-rest.i) c.last_digit-2.ensures
-            ∙ number_end c.loop-rest.out at c.loop-rest.i c.loop-rest.rest (omega arith) c.loop-rest.invariant.0
-            ∙ c.loop-rest.invariant.3;
-        behind = omega arith;
-      }
+      text =
+          ap (set c.loop-rest.out c.loop-rest.i) c.last_digit-2.ensures
+          ∙ number_end c.loop-rest.out at c.loop-rest.i c.loop-rest.rest (omega arith) c.loop-rest.invariant.0
+          ∙ c.loop-rest.invariant.3;
+      behind = omega arith;
+    }

@@ -1,4 +1,4 @@
-use Rattle.std.proofs.Common.{◌+◌, ◌-◌, sym, ◌∙◌, arith, set, length-set}
+use Rattle.std.proofs.Common.{◌+◌, sym, ◌∙◌, arith, set, length-set}
 use Rattle.text.proofs.HexLaws.{length-hex, hex-turn, hex_end}
 use Rattle.text.proofs.hex.hex.Goals as goal
 
