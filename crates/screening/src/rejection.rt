@@ -14,7 +14,7 @@ use partition::classes::crosses;
 use words::{le, set};
 
 // What 20, 6 and 16 ask of one observer, and 7, 16 and 8 of one event.
-#[derive(Drop)]
+#[derive(Clone, Copy)]
 enum Fault {
     FallingObserver,
     Misnumbered,
