@@ -2,18 +2,16 @@
 use Prim.Native.Nat.{ℕ, ◌+◌, ◌≤◌, ◌<◌}
 use mathlib.Core.Path.{◌≡◌, refl, sym, ap, ◌∙◌, subst}
 use mathlib.Core.List.{List}
-use mathlib.Core.Option.{Option, none, some}
+use mathlib.Core.Option.{Option, none}
 use native.Mathlib.Decide.{ℕ_discrete}
 use native.Mathlib.Omega.{arith}
 use Rattle.bounded.specs.Search.{first}
-use Rattle.bounded.proofs.Search.{first_done}
 use Rattle.part.specs.Record.{observers, observer, observer_of}
 use Rattle.relations.specs.Relations.{closure_sizes}
 use Rattle.restrictive.specs.declared.answer.Violation as code
 use Rattle.restrictive.specs.declared.answer.Finding.{Finding}
 use Rattle.restrictive.specs.declared.answer.Found.TheVariants.{At, Nothing}
 use Rattle.restrictive.specs.Verdict.{Violation, violation_for, first_violation}
-use Rattle.restrictive.specs.Answers.{violation_of}
 use Rattle.restrictive.specs.Found.{found_of, taken_at, FindingFor, FindingIn}
 use Rattle.restrictive.proofs.Scans.{found_first, nothing-more}
 

@@ -10,7 +10,7 @@ use mathlib.Core.Logic.{◌↔◌, ⊎_elim}
 use lib.Dec.{eqb}
 use lib.ListN.{get_or}
 use borrow.Author.Tests.{eqb-true, eq-eqb, ne_eqb, not-true}
-use Rattle.bounded.specs.Search.{any, all, first, when}
+use Rattle.bounded.specs.Search.{any, first, when}
 use Rattle.bounded.proofs.Search.{all_at, all_intro, any_found, any_next, any_none, first-nothing, first_hit}
 use Rattle.bounded.proofs.Search.{same_truth, is_false, is_true, true_not_false, imp_elim, imp_intro, not_refuted}
 use Rattle.bounded.proofs.Search.{true_or_false, and_right}

@@ -18,7 +18,6 @@ use Rattle.relations.specs.Sets.{Sound}
 use Rattle.relations.proofs.Theorems.{rows-within}
 use Rattle.restrictive.specs.declared.answer.Verdict.{Verdict}
 use Rattle.restrictive.specs.declared.answer.Finding.{Finding}
-use Rattle.restrictive.specs.Verdict as plain
 use Rattle.restrictive.specs.Verdict.{Violation, refused, by_rules, after_rejection, first_violation, verdict}
 use Rattle.restrictive.specs.Verdict.{taken_by, taken, limit, limit_by, told_limit}
 use Rattle.restrictive.specs.Answers.{verdict_of, Reports}

@@ -3,7 +3,7 @@ use screening::Rejection;
 
 // A violation of a rule (document 01: a break): the level of the observer concerned, the rule's number, the event's identifier, and the
 // states s, t, u.
-#[derive(Drop)]
+#[derive(Clone, Copy)]
 pub struct Violation {
     pub level: u8,
     pub rule: usize,
@@ -14,7 +14,7 @@ pub struct Violation {
 }
 
 // A violation, or none.
-#[derive(Drop)]
+#[derive(Clone, Copy)]
 pub enum Found {
     At(Violation),
     Nothing,
@@ -43,7 +43,7 @@ pub struct Report {
 }
 
 // One event under one rule, for an observer: the rule counted from 0, the event's place, the observer's level.
-#[derive(Drop)]
+#[derive(Clone, Copy)]
 pub struct Case {
     pub rule: usize,
     pub event: usize,
