@@ -10,7 +10,7 @@ use lib.Seq.{take-add, drop-drop, get_or-append-add, length-take-le, take-append
 use Rattle.words.specs.LittleEndian.{number}
 use Rattle.part.specs.Record.{body_length}
 use Rattle.store.specs.Walk.{Front, end_record, record_of, neither, front, walk_at_most, walk, records}
-use Rattle.store.specs.Reading.{part, place}
+use Rattle.store.specs.Reading.{place}
 use Rattle.store.specs.Found.{Ends}
 use Rattle.store.proofs.Fronts.{record-whole, body_at}
 
