@@ -9,13 +9,10 @@ use native.Mathlib.Omega.{arith}
 use lib.ListN.{length, take, drop, length-drop}
 use lib.Seq.{drop-drop}
 use borrow.Author.Tests.{lt-ltb, le-ltb}
-use denote.Enum.Declared.{tag_of}
-use types.Run.{OneOf, miss}
 use Rattle.script.specs.declared.operation.Call as call
 use Rattle.script.specs.declared.operation.Call.TheVariants.{Clear, Load, Hookup}
 use Rattle.script.specs.declared.operation.Operation as operation
 use Rattle.script.specs.declared.operation.Operation.TheVariants.{Count, Part, Ended, Truncated, Unknown}
-use Rattle.script.specs.contracts.operation.Operation.{the_type}
 use Rattle.script.specs.Answers.{operation_of_call, operation_of}
 use Rattle.script.specs.Operation as script
 use Rattle.script.specs.Operation.{operation, size}
@@ -65,10 +62,10 @@ some-call Clear s = record { call = clear; is = refl }
 some-call (Load a e) s = record { call = load (take (e - a) (drop a s)); is = refl }
 some-call (Hookup i j) s = record { call = hookup i j; is = refl }
 
-pub no_call : (o : operation.Operation) (s : List ℕ) → OneOf (1 ∷ 2 ∷ 3 ∷ 4 ∷ 5 ∷ []) (tag_of the_type o)
+pub no_call : (o : operation.Operation) (s : List ℕ) → ((c : call.Call) → o ≡ operation.TheVariants.Call c → ⊥)
     → call_of (operation_of o s) ≡ none
 unfolding call_of operation_of
-no_call (operation.TheVariants.Call c) s k = absurd (miss (1 ∷ 2 ∷ 3 ∷ 4 ∷ 5 ∷ []) 0 tt k)
+no_call (operation.TheVariants.Call c) s k = absurd (k c refl)
 no_call Count s k = refl
 no_call (Part i) s k = refl
 no_call Ended s k = refl

@@ -1,7 +1,7 @@
 -- What the calls answer and write, on shelves with records that pass, that do not, and without an end record.
-use Rattle.std.specs.Prelude.{ℕ, ◌+◌, ◌≡◌, refl, replicate}
+use Rattle.std.specs.Prelude.{ℕ, ◌≡◌, refl, replicate}
 use mathlib.Core.List.{List, [], ◌∷◌, ◌++◌, flatten}
-use Rattle.std.proofs.Math.Option.{Option, none, some}
+use Rattle.std.proofs.Math.Option.{none, some}
 use Rattle.bounded.specs.Search.{when, each}
 use Rattle.words.specs.Laid.{over, laid_unless}
 use Rattle.words.specs.LittleEndian.{number, digits, as_words}
