@@ -1,7 +1,7 @@
 // What stands in a replay script. specs/Answers.antt gives each its meaning.
 
 // A call that changes the shelf.
-#[derive(Drop)]
+#[derive(Clone, Copy)]
 pub enum Call {
     Clear,
     // Where the record starts in the script, and where it ends.
