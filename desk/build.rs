@@ -4,7 +4,7 @@ use std::path::{Path, PathBuf};
 use std::process::exit;
 use std::{env, fs};
 
-/// The folder of libhookup.a: HOOKUP_LIB, or where `rt staticlib hookup` puts it.
+/// The folder of libhookup.a: HOOKUP_LIB, or where `tools/build library` puts it.
 fn folder(root: &Path) -> PathBuf {
     match env::var_os("HOOKUP_LIB").filter(|folder| !folder.is_empty()) {
         Some(folder) => PathBuf::from(folder),
@@ -16,7 +16,7 @@ fn main() {
     let root = Path::new(env!("CARGO_MANIFEST_DIR")).join("..");
     let archive = folder(&root).join("libhookup.a");
     if !archive.is_file() {
-        eprintln!("hookup: {} is missing: `rt staticlib hookup` makes it", archive.display());
+        eprintln!("hookup: {} is missing: `tools/build library` makes it", archive.display());
         exit(1);
     }
     let kit = fs::read_to_string(root.join("KIT")).unwrap_or_default();

@@ -1,4 +1,4 @@
-/* The hookup bench, for a host program in C. Link target/staticlib/libhookup.a (made by `rt staticlib hookup`, x86-64).
+/* The hookup bench, for a host program in C. Link target/staticlib/libhookup.a (made by `tools/build library`, x86-64).
  * docs/FORMAT.md has the record, the shelf and the script byte by byte. */
 #ifndef HOOKUP_H
 #define HOOKUP_H

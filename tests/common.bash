@@ -7,7 +7,7 @@ need() {
     local program from
     for program; do
         command -v "$program" >/dev/null 2>&1 && continue
-        case $program in target/bin/*) from=": rt ci builds it" ;; *) from= ;; esac
+        case $program in target/bin/*) from=": tools/build programs makes it" ;; *) from= ;; esac
         echo "$named: $program is missing$from" >&2
         exit 2
     done
