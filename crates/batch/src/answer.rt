@@ -1,14 +1,14 @@
 // The answers about a whole script. specs/Answers.antt gives each its meaning.
 
 // How many calls a script has.
-#[derive(Drop)]
+#[derive(Clone, Copy)]
 pub enum Listing {
     Calls(usize),
     Malformed,
 }
 
 // How a run ends.
-#[derive(Drop)]
+#[derive(Clone, Copy)]
 pub enum Running {
     // All calls were made.
     Ran,

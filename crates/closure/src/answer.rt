@@ -1,7 +1,7 @@
 // The answer of the call. specs/Answers.antt gives each its number.
 use screening::Rejection;
 
-#[derive(Drop)]
+#[derive(Clone, Copy)]
 pub enum Listing {
     Written,
     Refused(Rejection),

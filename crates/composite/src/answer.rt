@@ -2,7 +2,7 @@
 use restrictive::Verdict;
 
 // Why there is no joined record of two passing parts.
-#[derive(Drop)]
+#[derive(Clone, Copy)]
 pub enum Obstacle {
     ObserversDiffer,
     // The smallest identifier under which the two parts clash.
@@ -11,20 +11,20 @@ pub enum Obstacle {
 }
 
 // What stands between two passing parts.
-#[derive(Drop)]
+#[derive(Clone, Copy)]
 pub enum Fit {
     Joins,
     Stopped(Obstacle),
 }
 
 // Which of the two records an answer speaks of: A is the first, B the second.
-#[derive(Drop)]
+#[derive(Clone, Copy)]
 pub enum Side {
     First,
     Second,
 }
 
-#[derive(Drop)]
+#[derive(Clone, Copy)]
 pub enum Joining {
     // The length of the joined record.
     Joined(usize),

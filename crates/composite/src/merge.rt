@@ -10,7 +10,7 @@ use part::Part;
 use words::le;
 
 // The identifiers of the merged entries: the first `count` of the array, and zeros behind them.
-#[derive(Drop)]
+#[derive(Clone, Copy)]
 pub struct Merged {
     pub count: usize,
     pub identifiers: [usize; 64],

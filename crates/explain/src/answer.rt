@@ -1,7 +1,7 @@
 // The answer of the call. specs/Answers.antt gives each its meaning.
 use restrictive::Verdict;
 
-#[derive(Drop)]
+#[derive(Clone, Copy)]
 pub enum Explaining {
     Told(Verdict),
     NoRoom,

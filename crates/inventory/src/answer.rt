@@ -1,6 +1,6 @@
 // The answer of the calls. specs/Answers.antt gives each its number.
 
-#[derive(Drop)]
+#[derive(Clone, Copy)]
 pub enum Telling {
     Written,
     NoEnd,

@@ -10,7 +10,7 @@ use part::Part;
 use words::le;
 
 // The kind and the level of an event of the joined part.
-#[derive(Drop)]
+#[derive(Clone, Copy)]
 struct Sort {
     kind: u8,
     level: u8,

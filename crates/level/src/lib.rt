@@ -4,7 +4,7 @@
 ghost use Rattle.std.specs.Prelude.{◌≡◌, ◌<◌};
 ghost use Rattle.level.specs.Level.{rank, compartments, at_or_below, low, mislabelled};
 
-#[derive(Drop)]
+#[derive(Clone, Copy)]
 pub struct Level;
 
 impl Level {
@@ -52,6 +52,7 @@ impl Level {
         Level::at_or_below(level, observer)
     }
 
+    #[tactic(auto, using(crate::proofs::Labels::rank_higher))]
     pub fn is_mislabelled(level: u8) -> bool
         ensures { result ≡ mislabelled level }
     {

@@ -21,7 +21,7 @@ pub fn classes_with(count: usize, c: usize) -> usize
     count
 }
 
-#[derive(Drop)]
+#[derive(Clone, Copy)]
 pub struct Part;
 
 impl Part {

@@ -21,13 +21,13 @@ pub enum Found {
 }
 
 // What the rules give: the first violation, and how many states were taken up.
-#[derive(Drop)]
+#[derive(Clone, Copy)]
 pub struct Finding {
     pub found: Found,
     pub taken: usize,
 }
 
-#[derive(Drop)]
+#[derive(Clone, Copy)]
 pub enum Verdict {
     Pass,
     Refused(Rejection),
@@ -35,7 +35,7 @@ pub enum Verdict {
 }
 
 // The answer of Check: the verdict, how many states were taken up, and the limit of a record that passes.
-#[derive(Drop)]
+#[derive(Clone, Copy)]
 pub struct Report {
     pub verdict: Verdict,
     pub taken: usize,

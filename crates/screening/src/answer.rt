@@ -1,7 +1,7 @@
 // The answers about a record. specs/Answers.antt gives each its number.
 
 // Why a record is rejected.
-#[derive(Drop)]
+#[derive(Clone, Copy)]
 pub enum Rejection {
     TooShort,
     WrongLength,
@@ -17,7 +17,7 @@ pub enum Rejection {
 }
 
 // What screening a record finds.
-#[derive(Drop)]
+#[derive(Clone, Copy)]
 pub enum Screening {
     Accepted,
     Rejected(Rejection),

@@ -10,7 +10,7 @@ pub enum Call {
 }
 
 // What stands at a place of a script.
-#[derive(Drop)]
+#[derive(Clone, Copy)]
 pub enum Operation {
     Call(Call),
     Count,
@@ -23,5 +23,5 @@ pub enum Operation {
 }
 
 // An operation, and how many of the script's bytes it takes: none, where the script ends or stops there.
-#[derive(Drop)]
+#[derive(Clone, Copy)]
 pub struct Decoded(pub Operation, pub usize);

@@ -25,9 +25,9 @@ end_laid s at = over-digits s at 4 2 0
 
 -- ---- Clear
 
-pub clear-short : (s : List ℕ) → length s < 6 → clear s ≡ unchanged s (refused 12)
+pub clear_short : (s : List ℕ) → length s < 6 → clear s ≡ unchanged s (refused 12)
 unfolding clear
-clear-short s h = rw (lt-ltb _ _ h)
+clear_short s h = rw (lt-ltb _ _ h)
 
 pub clear_whole : (s : List ℕ) → 6 ≤ length s → clear s ≡ record { answer = gives 0; shelf = over s 0 end_bytes }
 unfolding clear

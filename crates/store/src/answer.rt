@@ -2,7 +2,7 @@
 use restrictive::Violation;
 
 // A number, a refusal by its number, refusal 10 with its identifier, a break.
-#[derive(Drop)]
+#[derive(Clone, Copy)]
 pub enum Answer {
     Gives(usize),
     Refused(usize),

@@ -15,6 +15,7 @@ use restrictive::call::check;
 use words::copy::lay;
 
 // The end record at the start.
+#[tactic(auto, using(crate::proofs::Appends::clear_short), unfolding(crate::specs::Answers::answer_of))]
 pub fn clear(s: &mut [u8]) -> Answer
     ensures result_value { answer_of result ≡ (clear s.old).answer }
     ensures s_after { s.new ≡ (clear s.old).shelf }

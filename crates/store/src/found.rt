@@ -1,7 +1,7 @@
 // What is found on a shelf. specs/Found.antt gives each its meaning.
 
 // What stands at a place: the end record, a record of so many bytes, or neither.
-#[derive(Drop)]
+#[derive(Clone, Copy)]
 pub enum Standing {
     End,
     Record(usize),
@@ -9,7 +9,7 @@ pub enum Standing {
 }
 
 // What a walk finds.
-#[derive(Drop)]
+#[derive(Clone, Copy)]
 pub enum Found {
     // The number of records, and where the end record stands behind them.
     End(usize, usize),
@@ -17,7 +17,7 @@ pub enum Found {
 }
 
 // Where a record stands on the shelf, and how many bytes it has.
-#[derive(Drop)]
+#[derive(Clone, Copy)]
 pub struct Extent {
     pub place: usize,
     pub size: usize,

@@ -30,8 +30,8 @@ fn stopped(o: Obstacle) -> Answer
 // Appends the joined record of two passing records at the end record's place, as number n; 9, 10, 11, 15.
 pub fn append_joined<'a>(s: &mut [u8], n: usize, at: usize, a: &'a [u8], b: &'a [u8]) -> Answer
     requires ends { Ends s.old n at }
-    requires a_value { verdict a.now ≡ pass }
-    requires passes { verdict b.now ≡ pass }
+    requires a_passes { verdict a.now ≡ pass }
+    requires b_passes { verdict b.now ≡ pass }
     ensures result_value { answer_of result
         ≡ (append_joined s.old (records s.old) a.now b.now).answer }
     ensures s_after { s.new

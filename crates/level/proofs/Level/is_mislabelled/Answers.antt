@@ -2,9 +2,6 @@ use Rattle.std.proofs.Common.{sym}
 use Rattle.level.proofs.Labels.{rank_higher, rank-lowest}
 use Rattle.level.proofs.Level.is_mislabelled.Goals as goal
 
-pub returns-then-rank-ne0 : goal.returns-then-rank-ne0
-returns-then-rank-ne0 c = sym (rank_higher _ (λ e. c.if-rank-ne0.true (let told = c.rank.ensures in cc)))
-
 pub returns : goal.returns
 returns c =
     let level = c.rank.ensures in

@@ -1,17 +1,7 @@
 use Rattle.std.proofs.Common.{refl, arith}
 use Rattle.store.specs.Answers.{answer_of}
-use Rattle.store.proofs.Appends.{clear-short, clear_whole}
+use Rattle.store.proofs.Appends.{clear_whole}
 use Rattle.store.proofs.call.clear.Goals as goal
-
-pub returns-then-s-lt-HEADER-clause-result_value : goal.returns-then-s-lt-HEADER-clause-result_value
-unfolding answer_of
-returns-then-s-lt-HEADER-clause-result_value c =
-    simp (clear-short c.args.s.now (omega arith)) (refl)
-
-pub returns-then-s-lt-HEADER-clause-s_after : goal.returns-then-s-lt-HEADER-clause-s_after
-unfolding answer_of
-returns-then-s-lt-HEADER-clause-s_after c =
-    simp (clear-short c.args.s.now (omega arith)) (refl)
 
 pub returns-clause-result_value : goal.returns-clause-result_value
 unfolding answer_of

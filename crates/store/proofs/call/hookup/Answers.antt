@@ -114,13 +114,13 @@ slice_bounds-b-end c = (second-copy (goal.at.slice_bounds-b-end c).After-lay-q).
 pub slice_bounds-append_joined-end-2 : goal.slice_bounds-append_joined-end-2
 slice_bounds-append_joined-end-2 c = (second-copy (goal.at.slice_bounds-append_joined-end-2 c).After-lay-q).long
 
-pub append_joined-requires-clause-a_value : goal.append_joined-requires-clause-a_value
-append_joined-requires-clause-a_value c =
-    ap verdict (first-copy (goal.at.append_joined-requires-clause-a_value c).After-lay-p).same ∙ passes-pass _ (first_passes (goal.at.append_joined-requires-clause-a_value c).Else-not-passes)
+pub append_joined-requires-clause-a_passes : goal.append_joined-requires-clause-a_passes
+append_joined-requires-clause-a_passes c =
+    ap verdict (first-copy (goal.at.append_joined-requires-clause-a_passes c).After-lay-p).same ∙ passes-pass _ (first_passes (goal.at.append_joined-requires-clause-a_passes c).Else-not-passes)
 
-pub append_joined-requires-clause-passes : goal.append_joined-requires-clause-passes
-append_joined-requires-clause-passes c =
-    ap verdict (second-copy (goal.at.append_joined-requires-clause-passes c).After-lay-q).same ∙ passes-pass _ (second-passes (goal.at.append_joined-requires-clause-passes c).Else-not-passes-2)
+pub append_joined-requires-clause-b_passes : goal.append_joined-requires-clause-b_passes
+append_joined-requires-clause-b_passes c =
+    ap verdict (second-copy (goal.at.append_joined-requires-clause-b_passes c).After-lay-q).same ∙ passes-pass _ (second-passes (goal.at.append_joined-requires-clause-b_passes c).Else-not-passes-2)
 
 pub returns-clause-result_value : goal.returns-clause-result_value
 returns-clause-result_value c =

@@ -18,23 +18,23 @@ unfolding fit_of
 clear c = sym c.obstacle-fit.ensures ∙ ap fit_of c.in-Joins.is
 
 joins : (c : In-Joins) → Joint c.args.a.now c.args.b.now
-joins c = joint _ _ c.requires.a_value c.requires.passes (clear c)
+joins c = joint _ _ c.requires.a_passes c.requires.b_passes (clear c)
 
 pub merge-list-requires-clause-a_framed : goal.merge-list-requires-clause-a_framed
 merge-list-requires-clause-a_framed c =
-    frame _ (passing-accepted _ c.requires.a_value)
+    frame _ (passing-accepted _ c.requires.a_passes)
 
 pub merge-list-requires-clause-b_framed : goal.merge-list-requires-clause-b_framed
 merge-list-requires-clause-b_framed c =
-    frame _ (passing-accepted _ c.requires.passes)
+    frame _ (passing-accepted _ c.requires.b_passes)
 
 pub obstacle-fit-requires-clause-a_accepted : goal.obstacle-fit-requires-clause-a_accepted
 obstacle-fit-requires-clause-a_accepted c =
-    passing-accepted _ c.requires.a_value
+    passing-accepted _ c.requires.a_passes
 
 pub obstacle-fit-requires-clause-b_accepted : goal.obstacle-fit-requires-clause-b_accepted
 obstacle-fit-requires-clause-b_accepted c =
-    passing-accepted _ c.requires.passes
+    passing-accepted _ c.requires.b_passes
 
 pub returns-in-Stopped-clause-result_value : goal.returns-in-Stopped-clause-result_value
 unfolding fit_of
