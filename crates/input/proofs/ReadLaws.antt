@@ -41,7 +41,9 @@ first_bytes (Some x) (Some y) bytes n most h size p end =
     sym (ap (take most) p ∙ front)
   where
     whole : y ≡ [] → take most (bytes ++ y) ≡ bytes
-    whole e = ap (take most) (ap (λ (k : List ℕ). bytes ++ k) e ∙ append-nil bytes) ∙ take_all most bytes (omega (arith, size))
+    whole e =
+        ap (take most) (ap (λ (k : List ℕ). bytes ++ k) e ∙ append-nil bytes)
+        ∙ take_all most bytes (omega (arith, size))
 
     front : take most (bytes ++ y) ≡ bytes
     front = elim (eq-or-lt_of_le h) [

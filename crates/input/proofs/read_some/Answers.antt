@@ -14,7 +14,8 @@ returns-clause-brought g c =
     let bytes = c.args.bytes.now in
     let few = c.in_ok-n.ensures.within in
     let inside : at + n ≤ length bytes = omega (arith, few) in
-    let size : length (take n c.read_chunk.new.chunk) ≡ n = length-take-le n c.read_chunk.new.chunk (omega (arith, few)) in
+    let chunk = c.read_chunk.new.chunk in
+    let size : length (take n chunk) ≡ n = length-take-le n chunk (omega (arith, few)) in
     let behind = laid_kept n c.lay.ensures size inside in
     (omega (arith, length-drop at bytes, few), drop-drop n at c.lay.new.out ∙ behind ∙ sym (drop-drop n at bytes))
 
@@ -22,7 +23,8 @@ pub returns-clause-head : goal.returns-clause-head
 returns-clause-head g c =
     let n = c.in_ok-n.n in
     let few = c.in_ok-n.ensures.within in
-    let size : length (take n c.read_chunk.new.chunk) ≡ n = length-take-le n c.read_chunk.new.chunk (omega (arith, few)) in
+    let chunk = c.read_chunk.new.chunk in
+    let size : length (take n chunk) ≡ n = length-take-le n chunk (omega (arith, few)) in
     laid_before c.lay.ensures (omega (arith, size, few))
 
 pub returns-clause-next : goal.returns-clause-next
