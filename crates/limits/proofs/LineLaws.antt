@@ -11,8 +11,9 @@ pub on_text : {T E : Type 0} (r : Result T E) (before after : Option (List ℕ))
 on_text r before after is h = subst (λ (k : List ℕ). OnOk r (Appends before after k)) is h
 
 -- A text was written, and a last call that goes well writes the rest.
-pub last_text : {T E : Type 0} (r : Result T E) (before now after : Option (List ℕ)) (text rest : List ℕ) {all : List ℕ}
-    → Appends before now text → text ++ rest ≡ all → OnOk r (Appends now after rest) → OnOk r (Appends before after all)
+pub last_text : {T E : Type 0} (r : Result T E) (before now after : Option (List ℕ)) (text rest : List ℕ)
+    {all : List ℕ} → Appends before now text → text ++ rest ≡ all → OnOk r (Appends now after rest)
+    → OnOk r (Appends before after all)
 last_text (Err e) before now after text rest written is h = tt
 last_text (Ok x) before now after text rest written is h =
     subst (Appends before after) is (Appends-trans before now after text rest written h)

@@ -11,7 +11,8 @@ unfoldable pub part_over : List ℕ → ℕ → ℕ → List ℕ
 part_over out states events =
     set (set (over (over out 0 (digits 4 (length out - header))) 4 (digits 2 single_kind)) 7 states) 9 events
 
--- The first i low inputs of a part of one state that has m: the identifier of each, and its row, by which the state stays.
+-- The first i low inputs of a part of one state that has m: the identifier of each, and its row, by which the state
+-- stays.
 unfoldable pub inputs_over : List ℕ → ℕ → ℕ → ℕ → List ℕ
 inputs_over out first m zero = out
 inputs_over out first m (suc i) =

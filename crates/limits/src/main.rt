@@ -1,5 +1,5 @@
-// Joins pairs of parts at the limits of a record, 64 states and 32 entries (document 01, "Examples"), and prints a line
-// for each pair (specs/Pairs.antt).
+// Joins pairs of parts at the limits of a record, 64 states and 32 entries (document 01, "Examples"), and prints a
+// line for each pair (specs/Pairs.antt).
 #![tactic(auto)]
 
 ghost use Rattle.std.specs.Prelude.{◌≡◌, ◌+◌, ◌*◌, ◌≤◌, ◌++◌, length, decimal, codes, OnOk};
