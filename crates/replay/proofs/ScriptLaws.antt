@@ -26,17 +26,22 @@ module _ (s : List ℕ) where
       unfolding transcript
       too_large large = rw (← is, le-ltb most (length s) fits, le-ltb (length s) 4 whole, lt-ltb most n large) refl
 
-      -- The shelf is the first bytes of a larger one.
-      pub replayed : (room : ℕ) → n ≤ room → n ≤ most
-          → with_shelf (all_turns (drop 4 s) (take n (replicate room 0xAA))) ≡ transcript s
+      pub replayed : n ≤ most → with_shelf (all_turns (drop 4 s) (replicate n 0xAA)) ≡ transcript s
       unfolding transcript
-      replayed room within small =
-          rw (take-replicate {X = ℕ} n room 0xAA within, ← is, le-ltb most (length s) fits, le-ltb (length s) 4 whole, le-ltb most n small) refl
+      replayed small = rw (← is, le-ltb most (length s) fits, le-ltb (length s) 4 whole, le-ltb most n small) refl
+
+-- A shelf's first bytes are a shelf too.
+pub new_shelf : (n room : ℕ) (s : List ℕ) → n ≤ room
+    → with_shelf (all_turns s (take n (replicate room 0xAA))) ≡ with_shelf (all_turns s (replicate n 0xAA))
+new_shelf n room s within =
+    ap (λ (k : List ℕ). with_shelf (all_turns s k)) (take-replicate {X = ℕ} n room 0xAA within)
 
 -- Bytes behind the first one too many say nothing.
 pub first_enough : (n : ℕ) (input : List ℕ) → most < n → transcript (take n input) ≡ transcript input
 first_enough n input above = elim (cases_lt n (length input)) [
-  | inl long ↦ sym (too_long (take n input) (omega (arith, length-take-le n input (omega arith)))) ∙ too_long input (omega arith)
+  | inl long ↦
+      sym (too_long (take n input) (omega (arith, length-take-le n input (omega arith))))
+      ∙ too_long input (omega arith)
   | inr short ↦ ap transcript (take_all n input short)
 ]
 

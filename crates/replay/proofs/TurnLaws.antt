@@ -26,7 +26,8 @@ enough (suc n) (suc m) s shelf p q =
     same_then (eqb k 0) (turn (operation s) shelf) (turns n (drop k s)) (turns m (drop k s))
     (λ some. let taken = eqb-false k 0 some in
     let fits = size-within s in
-    enough n m (drop k s) (turn (operation s) shelf).shelf (omega (arith, length-drop k s)) (omega (arith, length-drop k s)))
+    enough n m (drop k s) (turn (operation s) shelf).shelf (omega (arith, length-drop k s))
+    (omega (arith, length-drop k s)))
 
 -- A turn that takes no byte is the last.
 pub last_turn : (s shelf : List ℕ) → size (operation s) ≡ 0 → all_turns s shelf ≡ turn (operation s) shelf
@@ -41,7 +42,8 @@ first_turn s shelf some =
     let t = turn (operation s) shelf in
     let k = size (operation s) in
     let fits = size-within s in
-    let rest = enough (length s) (suc (length (drop k s))) (drop k s) t.shelf (omega (arith, length-drop k s)) (omega arith) in
+    let rest =
+    enough (length s) (suc (length (drop k s))) (drop k s) t.shelf (omega (arith, length-drop k s)) (omega arith) in
     rw (ne_eqb k 0 (λ e. omega arith)) (ap (λ (r : Turn). record { line = t.line ++ r.line; shelf = r.shelf }) rest)
 
 -- A text was written, and with the lines of the turns that are left it makes up the lines of all turns.
@@ -52,8 +54,8 @@ pub record Left (before now : Option (List ℕ)) (all left : Turn) : Type 0 wher
   pub shelf : left.shelf ≡ all.shelf
 
 -- A turn whose line is written, and bytes behind it.
-pub left_behind : (before now after : Option (List ℕ)) {all : Turn} (script : List ℕ) (at size' : ℕ) (shelf shelf' line : List ℕ)
-    → Left before now all (all_turns (drop at script) shelf)
+pub left_behind : (before now after : Option (List ℕ)) {all : Turn} (script : List ℕ) (at size' : ℕ)
+    (shelf shelf' line : List ℕ) → Left before now all (all_turns (drop at script) shelf)
     → size' ≡ size (operation (drop at script)) → 0 < size' → shelf' ≡ (turn (operation (drop at script)) shelf).shelf
     → line ≡ (turn (operation (drop at script)) shelf).line → Appends now after line
     → Left before after all (all_turns (drop (at + size') script) shelf')
@@ -62,7 +64,8 @@ left_behind before now after {all} script at size' shelf shelf' line left is som
     let t = turn (operation s) shelf in
     let place : drop (size (operation s)) s ≡ drop (at + size') script = rw (← is) (drop-drop size' at script) in
     let first = first_turn s shelf (omega arith) in
-    let rest : all_turns (drop (size (operation s)) s) t.shelf ≡ all_turns (drop (at + size') script) shelf' = rw (place, ← kept) refl in
+    let rest : all_turns (drop (size (operation s)) s) t.shelf ≡ all_turns (drop (at + size') script) shelf'
+    = rw (place, ← kept) refl in
     record {
       text = left.text ++ line;
       written = Appends-trans before now after left.text line left.written written;
@@ -86,5 +89,6 @@ left_at_last before now after {all} s shelf line left none said written =
     subst (Appends before after) whole (Appends-trans before now after left.text line left.written written)
 
 -- A text that was written to the start of some bytes.
-pub front : (text rest : List ℕ) {after : List ℕ} {n : ℕ} → n ≡ length text → after ≡ text ++ rest → take n after ≡ text
+pub front : (text rest : List ℕ) {after : List ℕ} {n : ℕ} → n ≡ length text → after ≡ text ++ rest
+    → take n after ≡ text
 front text rest {after} {n} size is = ap (take n) is ∙ take_at text rest n (sym size)

@@ -27,5 +27,6 @@ no_operation = refl
 -- "0" for Clear, then "unknown", and the shelf that Clear left
 pub two_operations : transcript (7 ∷ 0 ∷ 0 ∷ 0 ∷ 0 ∷ 5 ∷ 3 ∷ [])
     ≡ ((48 ∷ 10 ∷ []) ++ unknown_text ++ line_end) ++ shelf_line (0 ∷ 0 ∷ 0 ∷ 0 ∷ 0 ∷ 0 ∷ 0xAA ∷ [])
-unfolding transcript all_turns turns number operation call size turn shelf.clear shelf.end_bytes over answer_line decimal digits
+unfolding transcript all_turns turns number operation call size turn
+    shelf.clear shelf.end_bytes over answer_line decimal digits
 two_operations = refl

@@ -1,7 +1,7 @@
 // Replays a script of calls on a shelf: a line for each call, then the shelf (specs/Transcript.antt).
 #![tactic(auto)]
 
-ghost use Rattle.std.specs.Prelude.{◌≡◌, ◌+◌, ◌*◌, ◌^◌, ◌≤◌, ◌<◌, length, take, drop, OnOk, IfSome};
+ghost use Rattle.std.specs.Prelude.{◌≡◌, ◌+◌, ◌*◌, ◌^◌, ◌≤◌, ◌<◌, length, take, drop, replicate, OnOk, IfSome};
 ghost use Rattle.std.specs.Io.KnownBytes.{Appends};
 ghost use Rattle.replay.specs.Transcript.{all_turns, with_shelf, transcript};
 
@@ -48,8 +48,8 @@ fn operations<W: Write>(
     }
 }
 
-// The operations of a script on a shelf, and the shelf's line. No line has more than N bytes.
-fn replay<W: Write, const N: usize>(
+// The operations of a script on a shelf, and the shelf's line, with room for a line of N bytes.
+fn replay_in<W: Write, const N: usize>(
     script: &[u8],
     shelf: &mut [u8],
     writer: &mut W,
@@ -66,10 +66,35 @@ fn replay<W: Write, const N: usize>(
     writer.write_all(&out[..n])
 }
 
-// A whole script. No shelf has more than N bytes.
-fn run<W: Write, const N: usize>(script: &[u8], writer: &mut W) -> io::Result<()>
-    requires has_room { MOST ≤ N }
+// The operations of a script on a shelf, and the shelf's line.
+fn replay<W: Write>(script: &[u8], shelf: &mut [u8], writer: &mut W) -> io::Result<()>
+    requires in_bounds { 4 ≤ length script.now }
+    requires shelf_len_bound { length shelf.old ≤ 262144 }
+    ensures { OnOk result (Appends (W.contents writer.old) (W.contents writer.new)
+        (with_shelf (all_turns (drop 4 script.now) shelf.old))) }
+{
+    replay_in::<W, WIDE>(script, shelf, writer)
+}
+
+// The same on a new shelf, the first bytes of N that are 0xAA.
+fn replay_on_new<W: Write, const N: usize>(
+    script: &[u8],
+    capacity: usize,
+    writer: &mut W,
+) -> io::Result<()>
+    requires in_bounds { 4 ≤ length script.now }
+    requires shelf_len_bound { capacity ≤ 262144 }
+    requires has_room { capacity ≤ N }
     requires fits { N < 2 ^ 63 }
+    ensures { OnOk result (Appends (W.contents writer.old) (W.contents writer.new)
+        (with_shelf (all_turns (drop 4 script.now) (replicate capacity 0xAA)))) }
+{
+    let mut shelf = [0xAAu8; N];
+    replay(script, &mut shelf[..capacity], writer)
+}
+
+// A whole script.
+fn run<W: Write>(script: &[u8], writer: &mut W) -> io::Result<()>
     ensures { OnOk result (Appends (W.contents writer.old) (W.contents writer.new) (transcript script.now)) }
 {
     if MOST < script.len() {
@@ -82,8 +107,7 @@ fn run<W: Write, const N: usize>(script: &[u8], writer: &mut W) -> io::Result<()
     if MOST < capacity {
         return writer.write_all(b"capacity\n");
     }
-    let mut shelf = [0xAAu8; N];
-    replay::<W, WIDE>(script, &mut shelf[..capacity], writer)
+    replay_on_new::<W, MOST>(script, capacity, writer)
 }
 
 // Reads N bytes at most, and replays them.
@@ -94,7 +118,7 @@ fn replay_first<R: Read, W: Write, const N: usize>(reader: &mut R, writer: &mut 
 {
     let mut buffer = [0u8; N];
     let n = read_all(reader, &mut buffer)?;
-    run::<W, MOST>(&buffer[..n], writer)
+    run(&buffer[..n], writer)
 }
 
 // Replays what the reader gives. Of what was written before an error nothing is said.
