@@ -1,15 +1,15 @@
 -- What reading the input leaves.
-use Rattle.std.specs.Prelude.{ℕ, ◌≤◌, ◌≡◌, List, length, drop}
-use Rattle.input.specs.declared.Input.{Input}
-use Rattle.input.specs.declared.Input.TheVariants.{Read, Failed}
+use Rattle.std.specs.Prelude.{ℕ, ◌≤◌, ◌≡◌, List, length, drop, Result, IfOk}
 
 -- Where a read did not fail, it brought at most so many bytes.
-abbrev pub Within : Input → ℕ → Type 0
-Within (Read n) most = n ≤ most
-Within Failed most = Unit {0}
+abbrev pub Within : {E : Type 0} → Result ℕ E → ℕ → Type 0
+Within r most = IfOk r (λ n. n ≤ most)
 
--- Where n bytes were read, they lie within the bytes that were lent, and those behind them are as they were. Free are the n bytes themselves, which
--- the system gives, and all bytes where a read failed.
-abbrev pub Brought : Input → List ℕ → List ℕ → Type 0
-Brought (Read n) before after = (n ≤ length before) × (drop n after ≡ drop n before)
-Brought Failed before after = Unit {0}
+-- The first n bytes may be new: they lie within the bytes that were lent, and those behind them are as they were.
+abbrev pub ChangesFirst : ℕ → List ℕ → List ℕ → Type 0
+ChangesFirst n before after = (n ≤ length before) × (drop n after ≡ drop n before)
+
+-- Where n bytes were read, they lie within the bytes that were lent, and those behind them are as they were. Free are
+-- the n bytes themselves, which the stream gives, and all bytes where a read failed.
+abbrev pub Brought : {E : Type 0} → Result ℕ E → List ℕ → List ℕ → Type 0
+Brought r before after = IfOk r (λ n. ChangesFirst n before after)

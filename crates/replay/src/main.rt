@@ -1,11 +1,14 @@
-// Replays a script of calls on a shelf: a line for each call, then the shelf.
+// Replays a script of calls on a shelf: a line for each call, then the shelf (specs/Transcript.antt).
 #![tactic(auto)]
 
-ghost use Rattle.std.specs.Prelude.{◌+◌, ◌*◌, ◌≤◌, length};
+ghost use Rattle.std.specs.Prelude.{◌≡◌, ◌+◌, ◌*◌, ◌^◌, ◌≤◌, ◌<◌, length, take, drop, replicate, OnOk, IfSome};
+ghost use Rattle.std.specs.Io.KnownBytes.{Appends};
+ghost use Rattle.replay.specs.Transcript.{all_turns, with_shelf, transcript};
 
-use input::{Input, read_all};
-use libc::{STDERR_FILENO, STDOUT_FILENO};
+use input::read_all;
 use script::decode;
+use std::io;
+use std::io::{Read, Write};
 use transcript::contents;
 use transcript::turn::turn;
 use words::le;
@@ -13,75 +16,119 @@ use words::le;
 // The longest script, and the largest shelf.
 const MOST: usize = 262144;
 
+// Room for a script, and for one byte more: a longer script is told by it.
+const ROOM: usize = MOST + 1;
+
 // Room for a line that shows all bytes of the largest shelf.
 const WIDE: usize = 160 + 2 * MOST;
 
-// false: the line could not be written.
-fn print(line: &[u8]) -> bool {
-    if io::write_all(STDOUT_FILENO, line) {
-        return true;
-    }
-    io::write_all(STDERR_FILENO, b"replay: cannot write standard output\n");
-    false
-}
-
-// The operations from place 4 on, until the script ends or stops. false: a line could not be written.
-fn operations(script: &[u8], shelf: &mut [u8], out: &mut [u8]) -> bool
+// The operations from place 4 on, until the script ends or stops.
+fn operations<W: Write>(
+    script: &[u8],
+    shelf: &mut [u8],
+    out: &mut [u8],
+    writer: &mut W,
+) -> io::Result<()>
     requires in_bounds { 4 ≤ length script.now }
     requires has_room { 160 + 2 * length shelf.old ≤ length out.old }
+    ensures shelf_after { OnOk result (shelf.new ≡ (all_turns (drop 4 script.now) shelf.old).shelf) }
+    ensures written { OnOk result (Appends (W.contents writer.old) (W.contents writer.new)
+        (all_turns (drop 4 script.now) shelf.old).line) }
 {
     let mut at = 4;
     loop {
         let n = turn(script, at, shelf, out);
-        if !print(&out[..n]) {
-            return false;
-        }
+        writer.write_all(&out[..n])?;
         let d = decode(script, at);
         let size = d.1;
         if size == 0 {
-            return true;
+            return Ok(());
         }
         at += size;
     }
 }
 
+// The operations of a script on a shelf, and the shelf's line, with room for a line of N bytes.
+fn replay_in<W: Write, const N: usize>(
+    script: &[u8],
+    shelf: &mut [u8],
+    writer: &mut W,
+) -> io::Result<()>
+    requires in_bounds { 4 ≤ length script.now }
+    requires has_room { 160 + 2 * length shelf.old ≤ N }
+    requires fits { N < 2 ^ 63 }
+    ensures { OnOk result (Appends (W.contents writer.old) (W.contents writer.new)
+        (with_shelf (all_turns (drop 4 script.now) shelf.old))) }
+{
+    let mut out = [0u8; N];
+    operations(script, shelf, &mut out, writer)?;
+    let n = contents::shelf(shelf, &mut out);
+    writer.write_all(&out[..n])
+}
+
 // The operations of a script on a shelf, and the shelf's line.
-fn replay(script: &[u8], shelf: &mut [u8])
+fn replay<W: Write>(script: &[u8], shelf: &mut [u8], writer: &mut W) -> io::Result<()>
     requires in_bounds { 4 ≤ length script.now }
     requires shelf_len_bound { length shelf.old ≤ 262144 }
+    ensures { OnOk result (Appends (W.contents writer.old) (W.contents writer.new)
+        (with_shelf (all_turns (drop 4 script.now) shelf.old))) }
 {
-    let mut out = [0u8; WIDE];
-    if operations(script, shelf, &mut out) {
-        let n = contents::shelf(shelf, &mut out);
-        print(&out[..n]);
-    }
+    replay_in::<W, WIDE>(script, shelf, writer)
+}
+
+// The same on a new shelf, the first bytes of N that are 0xAA.
+fn replay_on_new<W: Write, const N: usize>(
+    script: &[u8],
+    capacity: usize,
+    writer: &mut W,
+) -> io::Result<()>
+    requires in_bounds { 4 ≤ length script.now }
+    requires shelf_len_bound { capacity ≤ 262144 }
+    requires has_room { capacity ≤ N }
+    requires fits { N < 2 ^ 63 }
+    ensures { OnOk result (Appends (W.contents writer.old) (W.contents writer.new)
+        (with_shelf (all_turns (drop 4 script.now) (replicate capacity 0xAA)))) }
+{
+    let mut shelf = [0xAAu8; N];
+    replay(script, &mut shelf[..capacity], writer)
 }
 
 // A whole script.
-fn run(script: &[u8]) {
+fn run<W: Write>(script: &[u8], writer: &mut W) -> io::Result<()>
+    ensures { OnOk result (Appends (W.contents writer.old) (W.contents writer.new) (transcript script.now)) }
+{
     if MOST < script.len() {
-        print(b"script\n");
-        return;
+        return writer.write_all(b"script\n");
     }
     if script.len() < 4 {
-        print(b"truncated\n");
-        return;
+        return writer.write_all(b"truncated\n");
     }
     let capacity = le::u32_at(script, 0);
     if MOST < capacity {
-        print(b"capacity\n");
-        return;
+        return writer.write_all(b"capacity\n");
     }
-    let mut shelf = [0xAAu8; MOST];
-    replay(script, &mut shelf[..capacity]);
+    replay_on_new::<W, MOST>(script, capacity, writer)
 }
 
-fn main() {
-    let mut buffer = [0u8; MOST + 1];
-    match read_all(&mut buffer) {
-        Input::Read(n) => run(&buffer[..n]),
-        Input::Failed => {
-            io::write_all(STDERR_FILENO, b"replay: cannot read standard input\n");
-        }
-    }
+// Reads N bytes at most, and replays them.
+fn replay_first<R: Read, W: Write, const N: usize>(reader: &mut R, writer: &mut W) -> io::Result<()>
+    requires { N < 2 ^ 63 }
+    ensures { OnOk result (IfSome (R.remaining reader.old) (λ input.
+        Appends (W.contents writer.old) (W.contents writer.new) (transcript (take N input)))) }
+{
+    let mut buffer = [0u8; N];
+    let n = read_all(reader, &mut buffer)?;
+    run(&buffer[..n], writer)
+}
+
+// Replays what the reader gives. Of what was written before an error nothing is said.
+pub fn replay_all<R: Read, W: Write>(reader: &mut R, writer: &mut W) -> io::Result<()>
+    ensures { OnOk result (IfSome (R.remaining reader.old) (λ input.
+        Appends (W.contents writer.old) (W.contents writer.new) (transcript input))) }
+{
+    replay_first::<R, W, ROOM>(reader, writer)
+}
+
+fn main(rt: HostRuntime) -> io::Result<()> {
+    replay_all(&mut rt.stdin(), &mut rt.stdout())
 }

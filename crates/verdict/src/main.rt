@@ -1,23 +1,44 @@
-// Reads standard input and prints its line. Of a longer input only the first bytes are judged: no record is that long, so they are refused.
+// Reads standard input and prints its line. Of a longer input only the first bytes are judged: no record is that long,
+// so they are refused.
 #![tactic(auto)]
 
-use input::{Input, read_all};
-use libc::{STDERR_FILENO, STDOUT_FILENO};
+ghost use Rattle.std.specs.Prelude.{◌^◌, ◌<◌, take, OnOk, IfSome};
+ghost use Rattle.std.specs.Io.KnownBytes.{Appends};
+ghost use Rattle.report.specs.Line.{line_of};
 
-fn print(input: &[u8]) {
+use input::read_all;
+use report::JUDGED;
+use std::io;
+use std::io::{Read, Write};
+
+// Writes the line of an input.
+fn print<W: Write>(input: &[u8], writer: &mut W) -> io::Result<()>
+    ensures { OnOk result (Appends (W.contents writer.old) (W.contents writer.new) (line_of input.now)) }
+{
     let mut out = [0u8; report::LINE];
     let n = report::line_of(input, &mut out);
-    if !io::write_all(STDOUT_FILENO, &out[..n]) {
-        io::write_all(STDERR_FILENO, b"verdict: cannot write standard output\n");
-    }
+    writer.write_all(&out[..n])
 }
 
-fn main() {
-    let mut buffer = [0u8; report::JUDGED];
-    match read_all(&mut buffer) {
-        Input::Read(n) => print(&buffer[..n]),
-        Input::Failed => {
-            io::write_all(STDERR_FILENO, b"verdict: cannot read standard input\n");
-        }
-    }
+// Reads N bytes at most, and writes their line.
+fn judge<R: Read, W: Write, const N: usize>(reader: &mut R, writer: &mut W) -> io::Result<()>
+    requires { N < 2 ^ 63 }
+    ensures { OnOk result (IfSome (R.remaining reader.old) (λ input.
+        Appends (W.contents writer.old) (W.contents writer.new) (line_of (take N input)))) }
+{
+    let mut buffer = [0u8; N];
+    let n = read_all(reader, &mut buffer)?;
+    print(&buffer[..n], writer)
+}
+
+// Writes the line of what the reader gives. Of what was written before an error nothing is said.
+pub fn run<R: Read, W: Write>(reader: &mut R, writer: &mut W) -> io::Result<()>
+    ensures { OnOk result (IfSome (R.remaining reader.old) (λ input.
+        Appends (W.contents writer.old) (W.contents writer.new) (line_of input))) }
+{
+    judge::<R, W, JUDGED>(reader, writer)
+}
+
+fn main(rt: HostRuntime) -> io::Result<()> {
+    run(&mut rt.stdin(), &mut rt.stdout())
 }
