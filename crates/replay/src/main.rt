@@ -1,8 +1,8 @@
 // Replays a script of calls on a shelf: a line for each call, then the shelf (specs/Transcript.antt).
 #![tactic(auto)]
 
-ghost use Rattle.std.specs.Prelude.{◌≡◌, ◌+◌, ◌*◌, ◌^◌, ◌≤◌, ◌<◌, length, take, drop, replicate, OnOk, IfSome};
-ghost use Rattle.std.specs.Io.KnownBytes.{Appends};
+ghost use Rattle.std.specs.Prelude.{◌≡◌, ◌+◌, ◌*◌, ◌^◌, ◌≤◌, ◌<◌, ℕ, List, length, take, drop, replicate, OnOk, IfSome};
+ghost use Rattle.std.specs.Io.KnownBytes.{Appends, Consumes};
 ghost use Rattle.replay.specs.Transcript.{all_turns, with_shelf, transcript};
 
 use input::read_all;
@@ -113,18 +113,21 @@ fn run<W: Write>(script: &[u8], writer: &mut W) -> io::Result<()>
 // Reads N bytes at most, and replays them.
 fn replay_first<R: Read, W: Write, const N: usize>(reader: &mut R, writer: &mut W) -> io::Result<()>
     requires { N < 2 ^ 63 }
-    ensures { OnOk result (IfSome (R.remaining reader.old) (λ input.
+    ensures written { OnOk result (IfSome (R.remaining reader.old) (λ input.
         Appends (W.contents writer.old) (W.contents writer.new) (transcript (take N input)))) }
+    ensures taken { (bs : List ℕ) × Consumes (R.remaining reader.old) (R.remaining reader.new) bs }
 {
     let mut buffer = [0u8; N];
     let n = read_all(reader, &mut buffer)?;
     run(&buffer[..n], writer)
 }
 
-// Replays what the reader gives. Of what was written before an error nothing is said.
+// Replays what the reader gives. Of what was written before an error nothing is said. The reader loses bytes from its
+// front alone, also where an error comes.
 pub fn replay_all<R: Read, W: Write>(reader: &mut R, writer: &mut W) -> io::Result<()>
-    ensures { OnOk result (IfSome (R.remaining reader.old) (λ input.
+    ensures written { OnOk result (IfSome (R.remaining reader.old) (λ input.
         Appends (W.contents writer.old) (W.contents writer.new) (transcript input))) }
+    ensures taken { (bs : List ℕ) × Consumes (R.remaining reader.old) (R.remaining reader.new) bs }
 {
     replay_first::<R, W, ROOM>(reader, writer)
 }

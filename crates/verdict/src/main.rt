@@ -2,8 +2,8 @@
 // so they are refused.
 #![tactic(auto)]
 
-ghost use Rattle.std.specs.Prelude.{◌^◌, ◌<◌, take, OnOk, IfSome};
-ghost use Rattle.std.specs.Io.KnownBytes.{Appends};
+ghost use Rattle.std.specs.Prelude.{◌^◌, ◌<◌, ℕ, List, take, OnOk, IfSome};
+ghost use Rattle.std.specs.Io.KnownBytes.{Appends, Consumes};
 ghost use Rattle.report.specs.Line.{line_of};
 
 use input::read_all;
@@ -23,18 +23,21 @@ fn print<W: Write>(input: &[u8], writer: &mut W) -> io::Result<()>
 // Reads N bytes at most, and writes their line.
 fn judge<R: Read, W: Write, const N: usize>(reader: &mut R, writer: &mut W) -> io::Result<()>
     requires { N < 2 ^ 63 }
-    ensures { OnOk result (IfSome (R.remaining reader.old) (λ input.
+    ensures written { OnOk result (IfSome (R.remaining reader.old) (λ input.
         Appends (W.contents writer.old) (W.contents writer.new) (line_of (take N input)))) }
+    ensures taken { (bs : List ℕ) × Consumes (R.remaining reader.old) (R.remaining reader.new) bs }
 {
     let mut buffer = [0u8; N];
     let n = read_all(reader, &mut buffer)?;
     print(&buffer[..n], writer)
 }
 
-// Writes the line of what the reader gives. Of what was written before an error nothing is said.
+// Writes the line of what the reader gives. Of what was written before an error nothing is said. The reader loses bytes
+// from its front alone, also where an error comes.
 pub fn run<R: Read, W: Write>(reader: &mut R, writer: &mut W) -> io::Result<()>
-    ensures { OnOk result (IfSome (R.remaining reader.old) (λ input.
+    ensures written { OnOk result (IfSome (R.remaining reader.old) (λ input.
         Appends (W.contents writer.old) (W.contents writer.new) (line_of input))) }
+    ensures taken { (bs : List ℕ) × Consumes (R.remaining reader.old) (R.remaining reader.new) bs }
 {
     judge::<R, W, JUDGED>(reader, writer)
 }
