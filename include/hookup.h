@@ -1,6 +1,5 @@
 /* The hookup bench, for a host program in C. Link target/staticlib/libhookup.a (made by `tools/build library`, x86-64).
- * docs/FORMAT.md has the record, the shelf and the script byte by byte. The figures of stack that were measured are of the older kit's build; with
- * the build of the kit that KIT names no call reached the bound that is told of it, on 760 records. */
+ * docs/FORMAT.md has the record, the shelf and the script byte by byte. The figures of stack that were measured are of the older kit's build. */
 #ifndef HOOKUP_H
 #define HOOKUP_H
 

@@ -1,14 +1,15 @@
 #!/usr/bin/env python3
-"""Brings the repository's own names to the spelling of today's Rattle, after the kit's port.py and once.
+"""Brings the repository's own names to the spelling of today's Rattle, once, right behind the kit's port.py.
 
 usage: tools/port/respell.py [FOLDER]     FOLDER is a checkout; without it, this one
 
-1. names.txt has a line `old new` for each definition, field, constructor and lemma whose name changes: `at-or-below` is `at_or_below`.
+1. names.txt has a line `old new` for each definition, field, constructor and lemma whose name changes, under the first crate that declares it:
+   `at-or-below` is `at_or_below`.
    Names are in snake case; a dash stays in a lemma's name where it joins two names, as in `length-each`. Whole words are turned in specs/, proofs/,
    src/ and must-fail/ of every crate; no Rust name and no string has a dash that stands there. A prime sign becomes an apostrophe.
 2. Labels that port.py made up for clauses and that mislead get others (LABELS: label and the clause's beginning or end, new label).
 3. The old and new texts of must-fail edits that no longer stand in their file are brought to its spelling (edits.py).
-A second run changes nothing.
+It is for a tree as port.py leaves it: the proofs of today have names of the check with a dash too.
 """
 import os
 import re
@@ -64,7 +65,7 @@ def labelled(line):
 
 
 def main():
-    names = dict(line.split() for line in open(os.path.join(HERE, "names.txt"), encoding="utf-8") if line.strip())
+    names = dict(line.split() for line in open(os.path.join(HERE, "names.txt"), encoding="utf-8") if line.strip() and not line.startswith("#"))
     words = "|".join(re.escape(w) for w in sorted(names, key=len, reverse=True))
     whole = re.compile(rf"(?<![^{STOP}])({words})(?![^{STOP}])")
     changed = 0
