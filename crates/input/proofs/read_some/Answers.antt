@@ -6,6 +6,14 @@ use Rattle.words.proofs.LaidLaws.{laid_before, laid_kept}
 use Rattle.input.proofs.ReadLaws.{laid_piece}
 use Rattle.input.proofs.read_some.Goals as goal
 
+pub returns-clause-head : goal.returns-clause-head
+returns-clause-head g c =
+    let n = c.in_ok-n.n in
+    let few = c.in_ok-n.ensures.within in
+    let chunk = c.read_chunk.new.chunk in
+    let size : length (take n chunk) ≡ n = length-take-le n chunk (omega (arith, few)) in
+    laid_before c.lay.ensures (omega (arith, size, few))
+
 pub returns-clause-next : goal.returns-clause-next
 returns-clause-next g c =
     let n = c.in_ok-n.n in
@@ -21,14 +29,6 @@ returns-clause-next g c =
       λ none room. read.1 none
           (omega (arith, length-take most chunk, length-drop c.args.at c.lay.new.out)),
     )
-
-pub returns-clause-head : goal.returns-clause-head
-returns-clause-head g c =
-    let n = c.in_ok-n.n in
-    let few = c.in_ok-n.ensures.within in
-    let chunk = c.read_chunk.new.chunk in
-    let size : length (take n chunk) ≡ n = length-take-le n chunk (omega (arith, few)) in
-    laid_before c.lay.ensures (omega (arith, size, few))
 
 -- What was read is a piece of n bytes, which is laid within the bytes.
 pub returns-clause-brought : goal.returns-clause-brought

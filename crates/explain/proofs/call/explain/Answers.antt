@@ -23,16 +23,6 @@ returns-in-Refused-clause-out_after c =
     let refusing = ap verdict_of c.in-Refused.is in
     (told-refused _ _ (sym c.check-report.ensures.verdict ∙ refusing) refusing).1
 
-pub returns-in-Break-clause-result_value : goal.returns-in-Break-clause-result_value
-unfolding verdict_of violation_of
-returns-in-Break-clause-result_value c =
-    let w = c.in-Break.w in
-    let numbers =
-    w.rule ∷ w.event ∷ w.s ∷ w.t ∷ w.u ∷ c.check-report.result.taken ∷ w.level ∷ 0 ∷ [] in
-    (told _ _ numbers (breaking (goal.at.returns-in-Break-clause-result_value c).In-Break)
-    (of_break _ (breaking (goal.at.returns-in-Break-clause-result_value c).In-Break) c.check-report.ensures.taken refl) c.tell.ensures.result_value
-    c.tell.ensures.out_after).0
-
 pub returns-in-Break-clause-out_after : goal.returns-in-Break-clause-out_after
 unfolding verdict_of violation_of
 returns-in-Break-clause-out_after c =
@@ -43,12 +33,15 @@ returns-in-Break-clause-out_after c =
     (of_break _ (breaking (goal.at.returns-in-Break-clause-out_after c).In-Break) c.check-report.ensures.taken refl) c.tell.ensures.result_value
     c.tell.ensures.out_after).1
 
-pub returns-in-Pass-clause-result_value : goal.returns-in-Pass-clause-result_value
-unfolding verdict_of
-returns-in-Pass-clause-result_value c =
-    let passing = sym c.check-report.ensures.verdict ∙ ap verdict_of c.in-Pass.is in
-    (told _ _ (0 ∷ 0 ∷ 0 ∷ 0 ∷ 0 ∷ c.check-report.result.taken ∷ 0 ∷ c.check-report.result.limit ∷ []) (sym c.check-report.ensures.verdict)
-    (of_pass _ passing c.check-report.ensures.taken c.check-report.ensures.limit) c.tell-in-Pass.ensures.result_value c.tell-in-Pass.ensures.out_after).0
+pub returns-in-Break-clause-result_value : goal.returns-in-Break-clause-result_value
+unfolding verdict_of violation_of
+returns-in-Break-clause-result_value c =
+    let w = c.in-Break.w in
+    let numbers =
+    w.rule ∷ w.event ∷ w.s ∷ w.t ∷ w.u ∷ c.check-report.result.taken ∷ w.level ∷ 0 ∷ [] in
+    (told _ _ numbers (breaking (goal.at.returns-in-Break-clause-result_value c).In-Break)
+    (of_break _ (breaking (goal.at.returns-in-Break-clause-result_value c).In-Break) c.check-report.ensures.taken refl) c.tell.ensures.result_value
+    c.tell.ensures.out_after).0
 
 pub returns-in-Pass-clause-out_after : goal.returns-in-Pass-clause-out_after
 unfolding verdict_of
@@ -56,3 +49,10 @@ returns-in-Pass-clause-out_after c =
     let passing = sym c.check-report.ensures.verdict ∙ ap verdict_of c.in-Pass.is in
     (told _ _ (0 ∷ 0 ∷ 0 ∷ 0 ∷ 0 ∷ c.check-report.result.taken ∷ 0 ∷ c.check-report.result.limit ∷ []) (sym c.check-report.ensures.verdict)
     (of_pass _ passing c.check-report.ensures.taken c.check-report.ensures.limit) c.tell-in-Pass.ensures.result_value c.tell-in-Pass.ensures.out_after).1
+
+pub returns-in-Pass-clause-result_value : goal.returns-in-Pass-clause-result_value
+unfolding verdict_of
+returns-in-Pass-clause-result_value c =
+    let passing = sym c.check-report.ensures.verdict ∙ ap verdict_of c.in-Pass.is in
+    (told _ _ (0 ∷ 0 ∷ 0 ∷ 0 ∷ 0 ∷ c.check-report.result.taken ∷ 0 ∷ c.check-report.result.limit ∷ []) (sym c.check-report.ensures.verdict)
+    (of_pass _ passing c.check-report.ensures.taken c.check-report.ensures.limit) c.tell-in-Pass.ensures.result_value c.tell-in-Pass.ensures.out_after).0

@@ -16,16 +16,16 @@ returns-then-s-at-clause-s_after c =
     let s = c.args.s.now in
     simp (append_full s (records s) c.args.r.now (omega (arith, c.requires.place))) (refl)
 
-pub returns-clause-result_value : goal.returns-clause-result_value
-unfolding answer_of
-returns-clause-result_value c =
-    let room = c.if-s-at.false in
-    simp (append_laid c.args.s.now c.args.r.now _ _ _ _ c.requires (omega arith)
-    c.lay-end.ensures) (refl)
-
 pub returns-clause-s_after : goal.returns-clause-s_after
 unfolding answer_of
 returns-clause-s_after c =
     let room = c.if-s-at.false in
     simp (append_laid c.args.s.now c.args.r.now _ _ _ _ c.requires (omega arith)
     c.lay-end.ensures) (c.put_end.ensures)
+
+pub returns-clause-result_value : goal.returns-clause-result_value
+unfolding answer_of
+returns-clause-result_value c =
+    let room = c.if-s-at.false in
+    simp (append_laid c.args.s.now c.args.r.now _ _ _ _ c.requires (omega arith)
+    c.lay-end.ensures) (refl)

@@ -79,14 +79,6 @@ write-requires-clause-lists c =
     let s = c.args.s.now in
     lists-merged _ _ _ _ c.merge-list.ensures.count_value c.merge-list.ensures.identifiers_value
 
-pub returns-clause-result_value : goal.returns-clause-result_value
-unfolding answer_of
-returns-clause-result_value c =
-    let walked = c.requires.ends in
-    (joined-room _ _ _ _ (clear (goal.at.returns-clause-result_value c).In-Joins) (omega (arith, c.if-s-at, walked.place)) walked.many
-    (c.put_end.ensures ∙ laid_behind _ _ walked c.joined_length-size.ensures
-    c.write.ensures)).0
-
 pub returns-clause-s_after : goal.returns-clause-s_after
 unfolding answer_of
 returns-clause-s_after c =
@@ -94,3 +86,11 @@ returns-clause-s_after c =
     (joined-room _ _ _ _ (clear (goal.at.returns-clause-s_after c).In-Joins) (omega (arith, c.if-s-at, walked.place)) walked.many
     (c.put_end.ensures ∙ laid_behind _ _ walked c.joined_length-size.ensures
     c.write.ensures)).1
+
+pub returns-clause-result_value : goal.returns-clause-result_value
+unfolding answer_of
+returns-clause-result_value c =
+    let walked = c.requires.ends in
+    (joined-room _ _ _ _ (clear (goal.at.returns-clause-result_value c).In-Joins) (omega (arith, c.if-s-at, walked.place)) walked.many
+    (c.put_end.ensures ∙ laid_behind _ _ walked c.joined_length-size.ensures
+    c.write.ensures)).0

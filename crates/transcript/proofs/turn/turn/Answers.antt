@@ -27,17 +27,17 @@ returns-in-Call-clause-shelf_after c =
     let told = rw c.in-Call.is at c.decode-d.ensures.is in
     simp (← told) (c.called.ensures.shelf_after)
 
-pub returns-in-Count-clause-value : goal.returns-in-Count-clause-value
-unfolding turn operation_of
-returns-in-Count-clause-value c =
-    let told = rw c.in-Count.is at c.decode-d.ensures.is in
-    simp (← told, ← c.count.ensures) (c.line.ensures.value)
-
 pub returns-in-Count-clause-out_after : goal.returns-in-Count-clause-out_after
 unfolding turn operation_of
 returns-in-Count-clause-out_after c =
     let told = rw c.in-Count.is at c.decode-d.ensures.is in
     simp (← told, ← c.count.ensures) (c.line.ensures.out_after)
+
+pub returns-in-Count-clause-value : goal.returns-in-Count-clause-value
+unfolding turn operation_of
+returns-in-Count-clause-value c =
+    let told = rw c.in-Count.is at c.decode-d.ensures.is in
+    simp (← told, ← c.count.ensures) (c.line.ensures.value)
 
 pub returns-in-Count-clause-shelf_after : goal.returns-in-Count-clause-shelf_after
 unfolding turn operation_of
