@@ -1,27 +1,34 @@
 -- The calls of a script: what stands at the start decides the first, and the others stand behind it.
-use Prim.Native.Nat.{ℕ, zero, suc, ◌+◌, ◌-◌, ◌≤◌, ◌<◌}
+use Prim.Native.Nat.{ℕ, zero, suc, ◌+◌, ◌≤◌, ◌<◌}
 use mathlib.Core.Path.{◌≡◌, refl, sym, ap, ◌∙◌}
 use mathlib.Core.List.{List, [], ◌∷◌}
 use mathlib.Core.Option.{Option, none, some, map}
+use Rattle.std.specs.Prelude.{Err}
 use native.Mathlib.Nat.{not-suc-le-zero, zero-add, add-zero}
 use native.Mathlib.Decide.{dec_lt}
 use native.Mathlib.Omega.{arith}
-use lib.ListN.{length, take, drop, length-drop}
-use lib.Seq.{drop-drop}
+use lib.ListN.{length, drop, length-drop}
 use borrow.Author.Tests.{lt-ltb, le-ltb}
 use Rattle.script.specs.declared.operation.Call as call
 use Rattle.script.specs.declared.operation.Call.TheVariants.{Clear, Load, Hookup}
 use Rattle.script.specs.declared.operation.Operation as operation
-use Rattle.script.specs.declared.operation.Operation.TheVariants.{Count, Part, Ended, Truncated, Unknown}
-use Rattle.script.specs.Answers.{operation_of_call, operation_of}
+use Rattle.script.specs.declared.operation.Operation.TheVariants.{Count, Part}
+use Rattle.script.specs.declared.operation.Stop.{Stop}
+use Rattle.script.specs.declared.operation.Stop.TheVariants.{Truncated, Unknown}
+use Rattle.script.specs.Answers.{operation_of_call, operation_of, stop_of, item_of}
 use Rattle.script.specs.Operation as script
 use Rattle.script.specs.Operation.{operation, size}
-use Rattle.script.proofs.Operations.{size-within}
+use Rattle.script.specs.Sequence.{operations}
+use Rattle.script.proofs.Operations.{size-within, operations-end, operations-first, operations-next, length-operations}
 use Rattle.store.specs.Answer.{Answer}
 use Rattle.store.specs.Model.{Call, clear, load, hookup}
 use Rattle.store.specs.Demand.{step}
 use Rattle.batch.specs.Script.{call_of, calls_at_most, calls, listed}
 use Rattle.batch.specs.Performed.{Answered}
+use Rattle.batch.specs.Listing.{Listed, Counts}
+use Rattle.std.specs.Prelude.{Result, Ok, Err, IsErrAnd}
+use Rattle.batch.specs.declared.answer.NotRun.{NotRun}
+use Rattle.batch.specs.declared.answer.NotRun.TheVariants.{Malformed}
 
 -- ---- the call at the start
 
@@ -56,24 +63,24 @@ pub record Calling (o : script.Operation) : Type 0 where
   pub is : call_of o ≡ some call
 
 -- The code's calls are calls, and its other operations are not.
-pub some-call : (c : call.Call) (s : List ℕ) → Calling (operation_of_call c s)
+pub some-call : (c : call.Call) → Calling (operation_of_call c)
 unfolding call_of operation_of_call
-some-call Clear s = record { call = clear; is = refl }
-some-call (Load a e) s = record { call = load (take (e - a) (drop a s)); is = refl }
-some-call (Hookup i j) s = record { call = hookup i j; is = refl }
+some-call Clear = record { call = clear; is = refl }
+some-call (Load r) = record { call = load r.now; is = refl }
+some-call (Hookup i j) = record { call = hookup i j; is = refl }
 
-pub no_call : (o : operation.Operation) (s : List ℕ) → ((c : call.Call) → o ≡ operation.TheVariants.Call c → ⊥)
-    → call_of (operation_of o s) ≡ none
+pub no_call : (o : operation.Operation) → ((c : call.Call) → o ≡ operation.TheVariants.Call c → ⊥)
+    → call_of (operation_of o) ≡ none
 unfolding call_of operation_of
-no_call (operation.TheVariants.Call c) s k = absurd (k c refl)
-no_call Count s k = refl
-no_call (Part i) s k = refl
-no_call Ended s k = refl
-no_call Truncated s k = refl
-no_call Unknown s k = refl
+no_call (operation.TheVariants.Call c) k = absurd (k c refl)
+no_call Count k = refl
+no_call (Part i) k = refl
 
-pub not_both : (o : script.Operation) {c : Call} → call_of o ≡ none → call_of o ≡ some c → ⊥
-not_both o e f = let z : ◌≡◌ {A = ℕ} 0 1 = cc in omega arith
+-- Nor is a stop.
+pub no_stop : (e : Stop) → call_of (item_of (Err e)) ≡ none
+unfolding item_of stop_of call_of
+no_stop Truncated = refl
+no_stop Unknown = refl
 
 -- ---- the calls
 
@@ -114,13 +121,39 @@ calls_next s c e =
     (omega arith) in
     rw (le-ltb (length s) 1 (omega arith), e, calls_at_most) (rw rest)
 
+-- The operations are calls, all of them.
+unfoldable pub calls_of : List script.Operation → Option (List Call)
+calls_of [] = some []
+calls_of (o ∷ os) = elim (call_of o) [ none ↦ none | some c ↦ map (λ (cs : List Call). c ∷ cs) (calls_of os) ]
+
+-- Where something is left, and those behind the first are known.
+some_left : (s : List ℕ) → 1 ≤ length s → ((t : List ℕ) → length t < length s → calls t ≡ calls_of (operations t))
+    → (o : Option Call) → call_of (operation s) ≡ o → calls s ≡ calls_of (operations s)
+unfolding calls_of
+some_left s l behind none e = calls_stuck s l e ∙ rw (operations-first s l, e, calls_of) refl
+some_left s l behind (some c) e =
+    let w = call-sized s c e in
+    let k = size (operation s) in
+    calls_next s c e
+    ∙ ap (map (λ (cs : List Call). c ∷ cs)) (behind (drop k s) (omega (arith, length-drop k s)))
+    ∙ rw (operations-next s w.some_byte, e, calls_of) refl
+
+-- The calls of a script are those that its operations are.
+pub calls-operations : (n : ℕ) (s : List ℕ) → length s < n → calls s ≡ calls_of (operations s)
+unfolding calls_of
+calls-operations zero s h = absurd (omega arith)
+calls-operations (suc n) s h =
+    elim (dec_lt (length s) 1) [
+      | yes l ↦ calls-none-left s l ∙ rw (operations-end s l) refl
+      | no l ↦ some_left s (omega arith) (λ t less. calls-operations n t (omega arith)) (call_of (operation s)) refl
+    ]
+
 -- ---- how many they are
 
--- A listing of s that has passed n calls and stands at `at`.
-pub record Passed (s : List ℕ) (at n : ℕ) : Type 0 where
-  pub fewer : n ≤ at
-  pub within : at ≤ length s
-  pub rest : map length (calls s) ≡ map (λ (cs : List Call). n + length cs) (calls (drop at s))
+-- A listing of s that has passed n calls, and has these operations left.
+pub record Passed (s : List ℕ) (n : ℕ) (left : List script.Operation) : Type 0 where
+  pub fewer : n + length left ≤ length s
+  pub rest : map length (calls s) ≡ map (λ (cs : List Call). n + length cs) (calls_of left)
 
 map-nothing : (o : Option (List Call)) → map length o ≡ map (λ (cs : List Call). 0 + length cs) o
 map-nothing none = refl
@@ -132,34 +165,28 @@ map_one_more : (n : ℕ) (c : Call) (o : Option (List Call))
 map_one_more n c none = refl
 map_one_more n c (some cs) = ap some (omega arith)
 
-pub passed_none : (s : List ℕ) → Passed s 0 0
-passed_none s = record { fewer = omega arith; within = omega arith; rest = map-nothing (calls s) }
+pub passed_none : (s : List ℕ) → Passed s 0 (operations s)
+passed_none s = record {
+  fewer = omega (arith, length-operations s);
+  rest = map-nothing (calls s)
+      ∙ ap (map (λ (cs : List Call). 0 + length cs)) (calls-operations (suc (length s)) s (omega arith));
+}
 
-pub passed_end : (s : List ℕ) (at n : ℕ) → Passed s at n → length s ≤ at → some n ≡ map length (calls s)
-passed_end s at n w h =
-    let left = length-drop at s in
-    let no_more = calls-none-left (drop at s) (omega arith) in
-    rw (w.rest, no_more) (ap some (sym (add-zero n)))
+pub passed_end : (s : List ℕ) (n : ℕ) → Passed s n [] → some n ≡ map length (calls s)
+unfolding calls_of
+passed_end s n w = rw w.rest (ap some (sym (add-zero n)))
 
-module _ (s : List ℕ) (at n : ℕ) (w : Passed s at n) (some_left : at < length s) where
-  left : length (drop at s) ≡ length s - at
-  left = length-drop at s
+module _ (s : List ℕ) (n : ℕ) (o : script.Operation) (left : List script.Operation) (w : Passed s n (o ∷ left)) where
+  pub passed_stuck : call_of o ≡ none → none ≡ map length (calls s)
+  unfolding calls_of
+  passed_stuck e = rw (w.rest, e, calls_of) refl
 
-  pub passed_stuck : call_of (operation (drop at s)) ≡ none → none ≡ map length (calls s)
-  passed_stuck e = let no_more = calls_stuck (drop at s) (omega (arith, left)) e in rw (w.rest, no_more)
-
-  pub passed_next : {c : Call} (k : ℕ) → call_of (operation (drop at s)) ≡ some c → k ≡ size (operation (drop at s))
-      → Passed s (at + k) (n + 1)
-  passed_next {c} k e so =
-      let whole = call-sized (drop at s) c e in
-      record {
-        fewer = omega arith;
-        within = omega (arith, left);
-        rest = w.rest
-            ∙ ap (map (λ (cs : List Call). n + length cs)) (calls_next (drop at s) c e)
-            ∙ map_one_more n c (calls (drop (size (operation (drop at s))) (drop at s)))
-            ∙ rw (← so, drop-drop k at s);
-      }
+  pub passed_next : {c : Call} → call_of o ≡ some c → Passed s (n + 1) left
+  unfolding calls_of
+  passed_next {c} e = record {
+    fewer = omega (arith, w.fewer);
+    rest = w.rest ∙ rw (e, calls_of) (map_one_more n c (calls_of left));
+  }
 
 -- ---- the first of them
 
@@ -192,12 +219,28 @@ calls-first s cs l h = go (call_of (operation s)) refl
     go none e = let no = calls_stuck s l e in let z : ◌≡◌ {A = ℕ} 0 1 = cc in absurd (omega arith)
     go (some c) e = go_on c e (calls (drop (size (operation s)) s)) refl (sym (calls_next s c e) ∙ h)
 
--- ---- all of them
+-- The same of the operations: the first is a call, and so are the others.
+pub record FirstOf (o : script.Operation) (os : List script.Operation) (cs : List Call) : Type 0 where
+  pub call : Call
+  pub others : List Call
+  pub is : call_of o ≡ some call
+  pub all : cs ≡ call ∷ others
+  pub behind : calls_of os ≡ some others
 
--- The script has n calls.
-pub record Listed (s : List ℕ) (n : ℕ) : Type 0 where
-  pub all : calls s ≡ some (listed s)
-  pub many : length (listed s) ≡ n
+pub first_of : (o : script.Operation) (os : List script.Operation) (cs : List Call) → calls_of (o ∷ os) ≡ some cs
+    → FirstOf o os cs
+unfolding calls_of
+first_of o os cs h = go (call_of o) refl (calls_of os) refl h
+  where
+    go : (d : Option Call) → call_of o ≡ d → (r : Option (List Call)) → calls_of os ≡ r
+        → elim d [ none ↦ none | some c ↦ map (λ (qs : List Call). c ∷ qs) r ] ≡ some cs
+        → FirstOf o os cs
+    go none e r q h = let z : ◌≡◌ {A = ℕ} 0 1 = cc in absurd (omega arith)
+    go (some c) e none q h = let z : ◌≡◌ {A = ℕ} 0 1 = cc in absurd (omega arith)
+    go (some c) e (some qs) q h =
+        let all : cs ≡ c ∷ qs = cc in record { call = c; others = qs; is = e; all = all; behind = q }
+
+-- ---- all of them
 
 pub listed-all : (s : List ℕ) (n : ℕ) → some n ≡ map length (calls s) → Listed s n
 unfolding listed
@@ -216,3 +259,8 @@ listed-none s e = go (calls s) refl e
     go : (o : Option (List Call)) → calls s ≡ o → none ≡ map length o → calls s ≡ none
     go none q h = q
     go (some cs) q h = let z : ◌≡◌ {A = ℕ} 0 1 = cc in absurd (omega arith)
+
+-- What the count of a malformed script answers at an exit of `?`.
+pub unlisted : (r : Result ℕ NotRun) (s : List ℕ) → IsErrAnd r (λ e. e ≡ Malformed) → calls s ≡ none → Counts r s
+unlisted (Ok n) s h e = absurd h
+unlisted (Err why) s h e = record { none_listed = e; told = h }

@@ -43,7 +43,7 @@ loaded_one {s} {o} {c} cs b (a_load n l) e more =
 loaded_one {s} {o} {c} cs b (a_hookup i j l) e more = let is : hookup i j ≡ c = cc in rw (← is) more
 loaded_one cs b (a_count l) e more = let z : ◌≡◌ {A = ℕ} 0 1 = cc in absurd (omega arith)
 loaded_one cs b (a_part i l) e more = let z : ◌≡◌ {A = ℕ} 0 1 = cc in absurd (omega arith)
-loaded_one cs b at_end e more = let z : ◌≡◌ {A = ℕ} 0 1 = cc in absurd (omega arith)
+loaded_one cs b (at_end l) e more = let z : ◌≡◌ {A = ℕ} 0 1 = cc in absurd (omega arith)
 loaded_one cs b cut_off e more = let z : ◌≡◌ {A = ℕ} 0 1 = cc in absurd (omega arith)
 loaded_one cs b another e more = let z : ◌≡◌ {A = ℕ} 0 1 = cc in absurd (omega arith)
 

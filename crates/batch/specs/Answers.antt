@@ -1,10 +1,13 @@
 -- What the answers of the code mean: no refusal, or one by its number.
-use Rattle.std.specs.Prelude.{ℕ}
+use Rattle.std.specs.Prelude.{ℕ, Result, Ok, Err}
 use Rattle.std.proofs.Math.Option.{Option, none, some}
-use Rattle.batch.specs.declared.answer.Running.{Running}
-use Rattle.batch.specs.declared.answer.Running.TheVariants.{Ran, Malformed, TooFew}
+use Rattle.batch.specs.declared.answer.NotRun.{NotRun}
+use Rattle.batch.specs.declared.answer.NotRun.TheVariants.{Malformed, TooFew}
 
-unfoldable pub refusal_of : Running → Option ℕ
-refusal_of Ran = none
-refusal_of Malformed = some 99
-refusal_of TooFew = some 15
+abbrev pub number_of : NotRun → ℕ
+number_of Malformed = 99
+number_of TooFew = 15
+
+abbrev pub refusal_of : Result (Unit {0}) NotRun → Option ℕ
+refusal_of (Ok done) = none
+refusal_of (Err why) = some (number_of why)

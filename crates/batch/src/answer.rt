@@ -1,19 +1,35 @@
-// The answers about a whole script. specs/Answers.antt gives each its meaning.
+// Why a script is not run. specs/Answers.antt gives each its number.
+ghost use Rattle.std.specs.Prelude.{◌≡◌};
+ghost use Rattle.batch.specs.Answers.{number_of};
 
-// How many calls a script has.
-#[derive(Clone, Copy)]
-pub enum Listing {
-    Calls(usize),
-    Malformed,
-}
+use script::operation::Stop;
 
-// How a run ends.
 #[derive(Clone, Copy)]
-pub enum Running {
-    // All calls were made.
-    Ran,
+pub enum NotRun {
     // Something else than calls of Clear, Load and Hookup stands in the script.
     Malformed,
     // Too few bytes for the answers.
     TooFew,
+}
+
+impl NotRun {
+    // The number that a host is told.
+    pub fn number(self) -> u32
+        ensures { result ≡ number_of self }
+    {
+        match self {
+            NotRun::Malformed => 99,
+            NotRun::TooFew => 15,
+        }
+    }
+}
+
+impl From<Stop> for NotRun {
+    ghost use Rattle.batch.specs.declared.answer.NotRun.TheVariants.{Malformed};
+
+    ghost from_gives = { λ _ why. why ≡ Malformed };
+
+    fn from(_stop: Stop) -> NotRun {
+        NotRun::Malformed
+    }
 }

@@ -8,9 +8,12 @@ ghost use Rattle.batch.specs.Running.{refusal, made};
 ghost use Rattle.batch.specs.Script.{calls, listed};
 ghost use Rattle.batch.specs.Slots.{slots};
 
-use crate::answer::{Listing, Running};
+use crate::answer::NotRun;
 use crate::listing::listing;
-use crate::perform::perform_at;
+use crate::perform::perform;
+use crate::slot::put_answer;
+use script::operation::Operation;
+use script::sequence::Operations;
 
 // The bytes of an answer.
 const SLOT: usize = 64;
@@ -23,30 +26,33 @@ fn perform_all(script: &[u8], shelf: &mut [u8], out: &mut [u8])
     ensures out_after { out.new
         ≡ over out.old 0 (slots (shelf_answers (listed script.now) shelf.old)) }
 {
-    let mut at = 0;
+    // Where the next answer begins: a place in bytes, which goes on by the size of an answer.
     let mut slot = 0;
-    while at < script.len() {
-        at = perform_at(script, at, shelf, out, slot);
+    for item in Operations::of(script) {
+        let Ok(operation) = item else {
+            return;
+        };
+        let Operation::Call(call) = operation else {
+            return;
+        };
+        put_answer(out, slot, perform(call, shelf));
         slot += SLOT;
     }
 }
 
 // Makes all calls of the script, and lays an answer of 64 bytes for each over the start of out; or none, where that
 // cannot be.
-pub fn run(script: &[u8], shelf: &mut [u8], out: &mut [u8]) -> Running
+pub fn run(script: &[u8], shelf: &mut [u8], out: &mut [u8]) -> Result<(), NotRun>
     ensures result_value { refusal_of result ≡ refusal script.now (length out.old) }
     ensures shelf_after { shelf.new
         ≡ shelf_after (made script.now (length out.old)) shelf.old }
     ensures out_after { out.new
         ≡ over out.old 0 (slots (shelf_answers (made script.now (length out.old)) shelf.old)) }
 {
-    let listed = listing(script);
-    let Listing::Calls(n) = listed else {
-        return Running::Malformed;
-    };
+    let n = listing(script)?;
     if out.len() / SLOT < n {
-        return Running::TooFew;
+        return Err(NotRun::TooFew);
     }
     perform_all(script, shelf, out);
-    Running::Ran
+    Ok(())
 }

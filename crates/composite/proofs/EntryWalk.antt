@@ -5,28 +5,15 @@ use mathlib.Core.Logic.{⊎_elim}
 use mathlib.Core.Bool.{true, false}
 use mathlib.Core.List.{List, [], ◌∷◌, ◌++◌, append-nil}
 use native.Mathlib.Nat.{zero-add}
-use native.Mathlib.Numerals.{add-one}
 use native.Mathlib.Decide.{dec_lt, ℕ_discrete}
 use native.Mathlib.Omega.{arith}
 use borrow.Author.Tests.{le-ltb, lt-ltb, le-leb, lt-leb, eq-eqb, ne_eqb}
 use lib.Dec.{leb}
-use lib.ListN.{
-  length,
-  take,
-  drop,
-  set,
-  replicate,
-  drop_of_length-le,
-  length-drop,
-  length-set,
-  length-replicate,
-  take-append-drop,
-}
-use lib.Seq.{drop-cons, get_or-take, get_or-drop, length-take-le, take-suc-set, append_snoc, drop-set-lt, drop-drop}
+use lib.ListN.{length-append}
+use lib.ListN.{length, take, drop, drop_of_length-le, length-drop}
+use lib.Seq.{drop-cons, get_or-take, get_or-drop, length-take-le, append_snoc}
 use Rattle.bounded.proofs.Search.{true_not_false, true_or_false}
-use Rattle.words.specs.Arrays.{padded}
 use Rattle.words.specs.LittleEndian.{byte, number}
-use Rattle.words.proofs.Arrays.{padded-over}
 use Rattle.words.proofs.LittleEndian.{number_same}
 use Rattle.part.specs.Record.{events, entry_at, identifier}
 use Rattle.part.specs.Frame.{Framed}
@@ -227,60 +214,49 @@ module _ (a b : List ℕ) (f : Framed a) (g : Framed b) (i j : ℕ) where
 
 -- ---- the whole walk
 
--- The first `count` of the identifiers are those of the merged list before the places i and j, and zeros stand behind
--- them.
-pub record Walked (a b identifiers : List ℕ) (count i j : ℕ) : Type 0 where
-  pub size : length identifiers ≡ 64
-  pub within : (i ≤ events a) × (j ≤ events b) × (count ≤ i + j)
-  pub zeros : drop count identifiers ≡ drop count (replicate 64 0)
-  pub so_far : take count identifiers
-      ++ merge (drop i (joined.identifiers a)) (drop j (joined.identifiers b)) ≡ merged a b
+-- The identifiers are those of the merged list before the places i and j.
+pub record Walked (a b identifiers : List ℕ) (i j : ℕ) : Type 0 where
+  pub within : (i ≤ events a) × (j ≤ events b) × (length identifiers ≤ i + j)
+  pub so_far : identifiers ++ merge (drop i (joined.identifiers a)) (drop j (joined.identifiers b)) ≡ merged a b
 
 module _ {a b xs : List ℕ} where
-  pub walked_none : xs ≡ replicate 64 0 → Walked a b xs 0 0 0
+  pub walked_none : xs ≡ [] → Walked a b xs 0 0
   unfolding merged
   walked_none e = record {
-    size = ap length e ∙ length-replicate {A = ℕ} 64 0;
-    within = (omega arith, omega arith, omega arith);
-    zeros = e;
-    so_far = refl;
+    within = (omega arith, omega arith, rw e (omega arith));
+    so_far = rw e refl;
   }
 
-  pub walked_more : {count i j e i' j' : ℕ} → Framed a → Framed b → Walked a b xs count i j
+  -- There is room for one more.
+  pub walked_room : {i j : ℕ} → Framed a → Framed b → Walked a b xs i j → i + j < events a + events b → length xs < 64
+  walked_room f g w h = omega (arith, f.few.most_events, g.few.most_events, w.within)
+
+  pub walked_more : {i j e i' j' : ℕ} {ys : List ℕ} → Framed a → Framed b → Walked a b xs i j
       → i + j < events a + events b
-      → e ≡ number 2 (next_entry a b i j) 0 → i' ≡ past a i e → j' ≡ past b j e
-      → Walked a b (set xs count e) (count + 1) i' j' × (i + j < i' + j')
-  walked_more {count} {i} {j} {e} f g w h q qi qj =
+      → e ≡ number 2 (next_entry a b i j) 0 → ys ≡ xs ++ e ∷ [] → i' ≡ past a i e → j' ≡ past b j e
+      → Walked a b ys i' j' × (i + j < i' + j')
+  walked_more {i} {j} {e} f g w h q p qi qj =
       let n = w.within in
-      let room : count < length xs = omega (arith, f.few.most_events, g.few.most_events, w.size, n) in
       let t : Turn a b i j e = subst (Turn a b i j) (sym q) (turn a b f g i j n.0 n.1 h) in (
         record {
-          size = length-set xs count e ∙ w.size;
-          within =
-              (omega (arith, past_le a i e n.0), omega (arith, past_le b j e n.1), omega (arith, t.further));
-          zeros = drop-set-lt (count + 1) xs count e (omega arith) ∙ sym (drop-drop 1 count xs) ∙ ap (drop 1) w.zeros
-              ∙ drop-drop 1 count (replicate 64 0);
-          so_far = rw (add-one count, take-suc-set xs count e room, qi, qj)
-              (append_snoc (take count xs) e
+          within = (
+            omega (arith, past_le a i e n.0),
+            omega (arith, past_le b j e n.1),
+            rw p (omega (arith, t.further, length-append xs (e ∷ []))),
+          );
+          so_far = rw (p, qi, qj)
+              (append_snoc xs e
               (merge (drop (past a i e) (identifiers a)) (drop (past b j e) (identifiers b)))
-              ∙ ap (λ (l : List ℕ). take count xs ++ l) (sym t.rest)
+              ∙ ap (λ (l : List ℕ). xs ++ l) (sym t.rest)
               ∙ w.so_far);
         },
         omega (arith, t.further),
       )
 
-  pub walked_all : {count i j : ℕ} → Framed a → Framed b → Walked a b xs count i j → events a + events b ≤ i + j
-      → (count ≡ length (merged a b)) × (xs ≡ padded 64 (merged a b))
-  walked_all {count} {i} {j} f g w h =
+  pub walked_all : {i j : ℕ} → Framed a → Framed b → Walked a b xs i j → events a + events b ≤ i + j
+      → xs ≡ merged a b
+  walked_all {i} {j} f g w h =
       let first = ended a i (omega (arith, w.within)) in
       let second = ended b j (omega (arith, w.within)) in
       let rest : merge (drop i (identifiers a)) (drop j (identifiers b)) ≡ [] = rw (first, second) (merge_none []) in
-      let all : take count xs ≡ merged a b =
-      sym (append-nil (take count xs)) ∙ ap (λ (l : List ℕ). take count xs ++ l) (sym rest)
-      ∙ w.so_far in
-      let few : count ≤ length xs = omega (arith, w.size, w.within, f.few.most_events, g.few.most_events) in
-      let size : count ≡ length (merged a b) = sym (length-take-le count xs few) ∙ ap length all in
-      let whole : xs ≡ merged a b ++ drop (length (merged a b)) (replicate 64 0) =
-      sym (take-append-drop count xs) ∙ ap (λ (l : List ℕ). l ++ drop count xs) all
-      ∙ ap (λ (l : List ℕ). merged a b ++ l) w.zeros ∙ ap (λ (k : ℕ). merged a b ++ drop k (replicate 64 0)) size in
-      (size, padded-over 64 (merged a b) whole)
+      sym (append-nil xs) ∙ ap (λ (l : List ℕ). xs ++ l) (sym rest) ∙ w.so_far

@@ -1,5 +1,7 @@
-// The answers of Join. specs/Answers.antt gives each its number and values.
-use restrictive::Verdict;
+// Why there is no joined record. specs/Answers.antt gives each answer its number and values.
+ghost use Rattle.std.specs.Prelude.{◌≡◌};
+
+use restrictive::Failure;
 
 // Why there is no joined record of two passing parts.
 #[derive(Clone, Copy)]
@@ -10,13 +12,6 @@ pub enum Obstacle {
     TooLarge,
 }
 
-// What stands between two passing parts.
-#[derive(Clone, Copy)]
-pub enum Fit {
-    Joins,
-    Stopped(Obstacle),
-}
-
 // Which of the two records an answer speaks of: A is the first, B the second.
 #[derive(Clone, Copy)]
 pub enum Side {
@@ -24,12 +19,21 @@ pub enum Side {
     Second,
 }
 
+// Why a call joins nothing.
 #[derive(Clone, Copy)]
-pub enum Joining {
-    // The length of the joined record.
-    Joined(usize),
+pub enum Unjoined {
     // A record's own refusal or break.
-    Unfit(Side, Verdict),
+    Unfit(Side, Failure),
     Stopped(Obstacle),
     NoRoom,
+}
+
+impl From<Obstacle> for Unjoined {
+    ghost use Rattle.composite.specs.declared.answer.Unjoined.TheVariants.{Stopped};
+
+    ghost from_gives = { λ o r. r ≡ Stopped o };
+
+    fn from(obstacle: Obstacle) -> Unjoined {
+        Unjoined::Stopped(obstacle)
+    }
 }

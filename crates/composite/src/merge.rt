@@ -1,101 +1,69 @@
 // The merged entries of two records (specs/Merge.antt, specs/Joined.antt).
-ghost use Rattle.std.specs.Prelude.{◌≡◌, ◌+◌, ◌<◌, ◌≤◌, length, replicate};
-ghost use Rattle.words.specs.Arrays.{padded};
+ghost use Rattle.std.specs.Prelude.{◌≡◌, ◌+◌, ◌<◌, ◌≤◌};
 ghost use Rattle.part.specs.Record.{events};
-ghost use Rattle.part.specs.Frame.{Framed};
 ghost use Rattle.composite.specs.Joined.{merged};
 ghost use Rattle.composite.specs.Walk.{entry, comes_first, next_entry, past};
 
-use part::Part;
+use arrayvec::ArrayVec;
+use part::Record;
 use words::le;
 
-// The identifiers of the merged entries: the first `count` of the array, and zeros behind them.
-#[derive(Clone, Copy)]
-pub struct Merged {
-    pub count: usize,
-    pub identifiers: [usize; 64],
-}
-
-fn comes_first(a: &[u8], b: &[u8], i: usize, j: usize) -> bool
-    requires a_framed { Framed a.now }
-    requires b_framed { Framed b.now }
-    ensures { result ≡ comes_first a.now b.now i j }
+#[tactic(auto, unfolding(crate::specs::Walk::comes_first))]
+fn comes_first(a: Record, b: Record, i: usize, j: usize) -> bool
+    ensures { result ≡ comes_first a.entry.bytes.now b.entry.bytes.now i j }
 {
-    if Part::events(a) <= i {
-        return false;
-    }
-    if Part::events(b) <= j {
-        return true;
-    }
-    Part::identifier(a, i) <= Part::identifier(b, j)
+    i < a.events() && (b.events() <= j || a.identifier(i) <= b.identifier(j))
 }
 
 // The four bytes of the entry at place i.
-fn entry(b: &[u8], i: usize) -> &[u8]
-    requires framed { Framed b.now }
-    requires i_bound { i < events b.now }
-    ensures { result.now ≡ entry b.now i }
+#[tactic(auto, unfolding(crate::specs::Walk::entry))]
+fn entry<'a>(b: Record<'a>, i: usize) -> &'a [u8]
+    requires { i < events b.bytes.now }
+    ensures { result.now ≡ entry b.entry.bytes.now i }
 {
-    let at = Part::entry(b, i);
-    let end = at + 4;
-    &b[at..end]
+    let at = b.entry(i);
+    &b.bytes()[at..at + 4]
 }
 
 // The next entry, as a part of the record that it comes from.
-fn next_entry<'a>(a: &'a [u8], b: &'a [u8], i: usize, j: usize) -> &'a [u8]
-    requires a_framed { Framed a.now }
-    requires b_framed { Framed b.now }
-    requires places_bound { (i ≤ events a.now) × (j ≤ events b.now) }
-    requires j_bound { i + j < events a.now + events b.now }
-    ensures { result.now ≡ next_entry a.now b.now i j }
+fn next_entry<'a>(a: Record<'a>, b: Record<'a>, i: usize, j: usize) -> &'a [u8]
+    requires places_bound { (i ≤ events a.bytes.now) × (j ≤ events b.bytes.now) }
+    requires j_bound { i + j < events a.bytes.now + events b.bytes.now }
+    ensures { result.now ≡ next_entry a.entry.bytes.now b.entry.bytes.now i j }
 {
     if comes_first(a, b, i, j) {
-        return entry(a, i);
+        entry(a, i)
+    } else {
+        entry(b, j)
     }
-    entry(b, j)
 }
 
-fn past(b: &[u8], i: usize, e: usize) -> usize
-    requires { Framed b.now }
-    ensures { result ≡ past b.now i e }
+#[tactic(auto, unfolding(crate::specs::Walk::past))]
+fn past(b: Record, i: usize, e: usize) -> usize
+    ensures { result ≡ past b.entry.bytes.now i e }
 {
-    if Part::events(b) <= i {
-        return i;
+    if i < b.events() && b.identifier(i) == e {
+        i + 1
+    } else {
+        i
     }
-    if Part::identifier(b, i) != e {
-        return i;
-    }
-    i + 1
 }
 
-fn zeros() -> [usize; 64]
-    ensures { result ≡ replicate 64 0 }
+// The identifiers of the merged entries, one at a time: both records go past the next identifier.
+pub fn merge<'a>(a: Record<'a>, b: Record<'a>) -> ArrayVec<usize, 64>
+    ensures { result.items ≡ merged a.entry.bytes.now b.entry.bytes.now }
 {
-    [0usize; 64]
-}
-
-// The merged list, an entry at a time: both records go past the next identifier.
-pub fn merge<'a>(a: &'a [u8], b: &'a [u8]) -> Merged
-    requires a_framed { Framed a.now }
-    requires b_framed { Framed b.now }
-    ensures count_value { result.count ≡ length (merged a.now b.now) }
-    ensures identifiers_value { result.identifiers ≡ padded 64 (merged a.now b.now) }
-{
-    let total = Part::events(a) + Part::events(b);
-    let mut identifiers = zeros();
-    let mut count = 0;
+    let total = a.events() + b.events();
+    let mut identifiers = ArrayVec::new();
     let mut i = 0;
     let mut j = 0;
+    // Both places move by what is found, so that the loop counts nothing.
     while i + j < total {
         let entry = next_entry(a, b, i, j);
-        let e = le::u16_at(entry, 0);
-        identifiers[count] = e;
-        count += 1;
+        let e = le::number::<2>(entry, 0) as usize;
+        identifiers.push(e);
         i = past(a, i, e);
         j = past(b, j, e);
     }
-    Merged {
-        count: count,
-        identifiers: identifiers,
-    }
+    identifiers
 }

@@ -1,126 +1,90 @@
 // The obstacles 9, 10 and 11 between two passing parts, in order (specs/Joining.antt).
-ghost use Rattle.std.specs.Prelude.{◌≡◌, ◌<◌, ◌≤◌, length};
-ghost use Rattle.part.specs.Format.{max_event_kind};
+ghost use Rattle.std.specs.Prelude.{◌≡◌, ◌<◌, length};
+ghost use Rattle.std.proofs.Math.Option.{some};
 ghost use Rattle.part.specs.Record.{events, identifier};
-ghost use Rattle.screening.specs.Rejections.{Accepted};
-ghost use Rattle.part.specs.Frame.{place_or_end};
-ghost use Rattle.part.specs.Events.{kind_of, event_of};
+ghost use Rattle.part.specs.Events.{place, event_of};
+ghost use Rattle.part.specs.Kinds.{machine_kind};
 ghost use Rattle.composite.specs.Joined.{merged};
 ghost use Rattle.composite.specs.Meeting.{clashes};
 ghost use Rattle.composite.specs.Joining.{observers_differ, first_clash, too_large, obstacle};
-ghost use Rattle.composite.specs.Walk.{fit_of};
-ghost use Rattle.composite.specs.Walk.{meeting};
+ghost use Rattle.composite.specs.Walk.{fit_of, meeting};
 
-use crate::answer::{Fit, Obstacle};
-use part::Part;
+use crate::answer::Obstacle;
+use part::{EventKind, Part, Record};
+use screening::Screened;
 
-// What a shared event becomes, by its kinds in the two parts: an internal event, or none.
-const INTERNAL: usize = Part::INTERNAL;
+const INTERNAL: Option<EventKind> = Some(EventKind::Internal);
 
-const CLASH: usize = 3;
-
-const MEETING: [[usize; 3]; 3] = [
-    [CLASH, INTERNAL, CLASH],
-    [INTERNAL, CLASH, CLASH],
-    [CLASH, CLASH, CLASH],
+// What a shared event becomes, by its kinds in the two parts; nothing where they clash.
+const MEETING: [[Option<EventKind>; 3]; 3] = [
+    [None, INTERNAL, None],
+    [INTERNAL, None, None],
+    [None, None, None],
 ];
 
-fn meeting(i: usize, j: usize) -> usize
-    requires i_le_max_event_kind { i ≤ max_event_kind }
-    requires j_le_max_event_kind { j ≤ max_event_kind }
-    ensures { result ≡ meeting (kind_of i) (kind_of j) }
+#[tactic(auto, unfolding(crate::specs::Walk::meeting, crate::specs::Meeting::meets))]
+pub fn meeting(i: EventKind, j: EventKind) -> Option<EventKind>
+    ensures { result ≡ meeting (machine_kind i) (machine_kind j) }
 {
-    MEETING[i][j]
+    MEETING[i as usize][j as usize]
 }
 
-// The event at place i of a is shared, and clashes. j is its place in b.
-fn clash_at(a: &[u8], b: &[u8], i: usize, j: usize) -> bool
-    requires a_accepted { Accepted a.now }
-    requires b_accepted { Accepted b.now }
-    requires i_bound { i < events a.now }
-    requires j_value { j ≡ place_or_end b.now (identifier a.now i) }
-    ensures { result ≡ clashes (event_of a.now (identifier a.now i)) (event_of b.now (identifier a.now i)) }
+// The event at place i of a, which stands at place j of b, clashes.
+fn clash_at(a: Screened, b: Screened, i: usize, j: usize) -> bool
+    requires i_bound { i < events a.record.bytes.now }
+    requires j_bound { j < events b.record.bytes.now }
+    requires j_value { place b.record.bytes.now (identifier a.record.bytes.now i) ≡ some j }
+    ensures { result
+        ≡ clashes (event_of a.entry.record.bytes.now (identifier a.entry.record.bytes.now i))
+        (event_of b.entry.record.bytes.now (identifier a.entry.record.bytes.now i)) }
 {
-    if Part::events(b) <= j {
-        return false;
-    }
-    if meeting(Part::event_kind(a, i), Part::event_kind(b, j)) == CLASH {
-        return true;
-    }
-    Part::level(a, i) != Part::level(b, j)
+    let meets = meeting(a.record.event_kind(i), b.record.event_kind(j)).is_some();
+    !(meets && a.record.level(i) == b.record.level(j))
 }
 
-fn first_clash(a: &[u8], b: &[u8]) -> Fit
-    requires a_accepted { Accepted a.now }
-    requires b_accepted { Accepted b.now }
-    ensures { fit_of result ≡ first_clash a.now b.now }
+fn first_clash(a: Screened, b: Screened) -> Result<(), Obstacle>
+    ensures { fit_of result ≡ first_clash a.entry.record.bytes.now b.entry.record.bytes.now }
 {
-    let m = Part::events(a);
     let mut near = 0;
-    let mut i = 0;
-    while i < m {
-        let e = Part::identifier(a, i);
-        let j = Part::place_near(b, near, e);
-        if clash_at(a, b, i, j) {
-            return Fit::Stopped(Obstacle::Clash(e));
-        }
-        if j < Part::events(b) {
+    for i in 0..a.record.events() {
+        let e = a.record.identifier(i);
+        if let Some(j) = b.record.place_near(near, e) {
+            if clash_at(a, b, i, j) {
+                return Err(Obstacle::Clash(e));
+            }
             near = j + 1;
         }
-        i += 1;
     }
-    Fit::Joins
+    Ok(())
 }
 
-fn too_large(a: &[u8], b: &[u8], count: usize) -> bool
-    requires a_accepted { Accepted a.now }
-    requires b_accepted { Accepted b.now }
-    requires count_value { count ≡ length (merged a.now b.now) }
-    ensures { result ≡ too_large a.now b.now }
+#[tactic(auto, unfolding(crate::specs::Joining::too_large))]
+fn too_large(a: Record, b: Record, count: usize) -> bool
+    requires { count ≡ length (merged a.bytes.now b.bytes.now) }
+    ensures { result ≡ too_large a.entry.bytes.now b.entry.bytes.now }
 {
-    if Part::STATES < Part::states(a) * Part::states(b) {
-        return true;
-    }
-    Part::EVENTS < count
+    Part::STATES < a.states() * b.states() || Part::EVENTS < count
 }
 
 // The lists of observers differ.
-fn observers_differ(a: &[u8], b: &[u8]) -> bool
-    requires a_accepted { Accepted a.now }
-    requires b_accepted { Accepted b.now }
-    ensures { result ≡ observers_differ a.now b.now }
+fn observers_differ(a: Record, b: Record) -> bool
+    ensures { result ≡ observers_differ a.entry.bytes.now b.entry.bytes.now }
 {
-    let count = Part::observers(a);
-    if count != Part::observers(b) {
-        return true;
-    }
-    let mut o = 0;
-    while o < count {
-        if Part::observer(a, o) != Part::observer(b, o) {
-            return true;
-        }
-        o += 1;
-    }
-    false
+    let count = a.observers();
+    count != b.observers() || (0..count).any(|o| a.observer(o) != b.observer(o))
 }
 
 // count is the number of their merged entries.
-pub fn obstacle(a: &[u8], b: &[u8], count: usize) -> Fit
-    requires a_accepted { Accepted a.now }
-    requires b_accepted { Accepted b.now }
-    requires count_value { count ≡ length (merged a.now b.now) }
-    ensures { fit_of result ≡ obstacle a.now b.now }
+pub fn obstacle(a: Screened, b: Screened, count: usize) -> Result<(), Obstacle>
+    requires { count ≡ length (merged a.record.bytes.now b.record.bytes.now) }
+    ensures { fit_of result ≡ obstacle a.entry.record.bytes.now b.entry.record.bytes.now }
 {
-    if observers_differ(a, b) {
-        return Fit::Stopped(Obstacle::ObserversDiffer);
+    if observers_differ(a.record, b.record) {
+        return Err(Obstacle::ObserversDiffer);
     }
-    let clash = first_clash(a, b);
-    match clash {
-        Fit::Stopped(o) => return Fit::Stopped(o),
-        Fit::Joins => {}
+    first_clash(a, b)?;
+    if too_large(a.record, b.record, count) {
+        return Err(Obstacle::TooLarge);
     }
-    if too_large(a, b, count) {
-        return Fit::Stopped(Obstacle::TooLarge);
-    }
-    Fit::Joins
+    Ok(())
 }

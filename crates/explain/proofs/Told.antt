@@ -32,10 +32,10 @@ of_verdict : (b : List ℕ) {v : Verdict} → verdict b ≡ v → explanation b 
 unfolding explanation
 of_verdict b e = rw e
 
-pub of_break : (b : List ℕ) {v : Violation} {k l : ℕ} → verdict b ≡ breaks v → k ≡ taken b → l ≡ v.level
-    → explanation b ≡ bytes (v.rule ∷ v.event ∷ v.s ∷ v.t ∷ v.u ∷ k ∷ l ∷ 0 ∷ [])
+pub of_break : (b : List ℕ) {v : Violation} {k l m : ℕ} → verdict b ≡ breaks v → k ≡ taken b → l ≡ v.level → m ≡ v.rule
+    → explanation b ≡ bytes (m ∷ v.event ∷ v.s ∷ v.t ∷ v.u ∷ k ∷ l ∷ 0 ∷ [])
 unfolding numbers as_words each
-of_break b e p q = of_verdict b e ∙ rw (← p, ← q) refl
+of_break b e p q r = of_verdict b e ∙ rw (← p, ← q, ← r) refl
 
 pub of_pass : (b : List ℕ) {k m : ℕ} → verdict b ≡ pass → k ≡ taken b → m ≡ told_limit b
     → explanation b ≡ bytes (0 ∷ 0 ∷ 0 ∷ 0 ∷ 0 ∷ k ∷ 0 ∷ m ∷ [])

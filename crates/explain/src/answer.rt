@@ -1,8 +1,5 @@
-// The answer of the call. specs/Answers.antt gives each its meaning.
-use restrictive::Verdict;
+// The answer of the call. specs/Answers.antt gives it its meaning.
 
-#[derive(Clone, Copy)]
-pub enum Explaining {
-    Told(Verdict),
-    NoRoom,
-}
+// The explanation has no room in the buffer.
+#[derive(Clone, Copy, PartialEq, Eq)]
+pub struct NoRoom;

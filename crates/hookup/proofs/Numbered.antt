@@ -1,16 +1,7 @@
--- The numbers of answers: those of breaks, and that they are the answer's.
-use Prim.Native.Nat.{ℕ, ◌≤◌}
+-- The numbers of answers are those of what they mean.
+use Prim.Native.Nat.{ℕ}
 use mathlib.Core.Path.{◌≡◌, sym, ap, ◌∙◌}
 use mathlib.Core.List.{List}
-use Rattle.restrictive.specs.Verdict.{Violation, Verdict, breaks}
-use Rattle.restrictive.proofs.Theorems.{break_rule}
-use Rattle.composite.specs.Joining.{Side, unfit, joining}
-use Rattle.join.proofs.JoinAnswers.{unfit-verdict}
-
--- A break that Join names is a break of one of the records.
-pub unfit-rule : (a b : List ℕ) (room : ℕ) (side : Side) (v : Verdict)
-    → joining a b room ≡ unfit side v → (w : Violation) → v ≡ breaks w → w.rule ≤ 5
-unfit-rule a b room side v e w q = let c = unfit-verdict a b room side v e in break_rule c.0 w (c.1 ∙ q)
 
 -- The number of an answer that a call gives as r, which is s, is that of what it means.
 pub as_number : {R A : Type 0} (meaning : R → A) (number : A → ℕ) {r s : R} {answer : A} → r ≡ s → meaning r ≡ answer

@@ -2,8 +2,8 @@
 #![tactic(auto)]
 
 ghost use Rattle.std.specs.Prelude.{◌≡◌, ◌≤◌, length};
-ghost use Rattle.restrictive.specs.Verdict.{Violation, breaks, verdict};
-ghost use Rattle.restrictive.specs.Answers.{verdict_of};
+ghost use Rattle.restrictive.specs.Verdict.{verdict};
+ghost use Rattle.restrictive.specs.Answers.{failure_of, verdict_of};
 ghost use Rattle.words.specs.Laid.{over, laid_unless};
 ghost use Rattle.closure.specs.Closures as closures;
 ghost use Rattle.explain.specs.Explanation as explanations;
@@ -12,35 +12,41 @@ ghost use Rattle.composite.specs.Joined.{joined};
 ghost use Rattle.composite.specs.Joining.{joining, buffer_after};
 ghost use Rattle.composite.specs.Answers.{side_of, obstacle_of};
 ghost use Rattle.inventory.specs.Inventory.{count_told, part_told, bytes, refusal};
-ghost use Rattle.inventory.specs.Answers as inventory;
 ghost use Rattle.store.specs.Demand.{shelf_after, shelf_answers};
 ghost use Rattle.batch.specs.Running as runs;
 ghost use Rattle.batch.specs.Slots.{slots};
 ghost use Rattle.hookup.specs.Numbers.{check_number, side_number, obstacle_number, join_number, refusal_number};
 
-use batch::answer::Running;
 use batch::run::run;
-use closure::answer::Listing;
+use closure::answer::Unlisted;
 use closure::call::list_closures;
-use composite::answer::{Joining, Obstacle, Side};
-use explain::answer::Explaining;
+use composite::answer::{Obstacle, Side, Unjoined};
+use explain::answer::NoRoom;
 use explain::call::explain;
-use inventory::answer::Telling;
 use inventory::call::{tell_count, tell_part};
 use join::call::join;
-use restrictive::Verdict;
 use restrictive::call::check;
+use restrictive::{Failure, Verdict};
 
-// The number of a verdict. There are five rules.
-fn check_number(v: Verdict) -> u32
-    requires { (w : Violation) → verdict_of v ≡ breaks w → w.rule ≤ 5 }
-    ensures value { result ≡ check_number (verdict_of v) }
+// The numbers of failures, sides and obstacles are the C interface's: a hundred for a break, a thousand for the second
+// record. There are five rules.
+fn failure_number(f: Failure) -> u32
+    ensures value { result ≡ check_number (failure_of f) }
     ensures upper_bound { result ≤ 105 }
 {
+    match f {
+        Failure::Refused(r) => r.number(),
+        Failure::Breaks(found) => 100 + found.violation.rule.number() as u32,
+    }
+}
+
+// The number of a verdict.
+fn check_number(v: Verdict) -> u32
+    ensures { result ≡ check_number (verdict_of v) }
+{
     match v {
-        Verdict::Pass => 0,
-        Verdict::Refused(r) => r.number(),
-        Verdict::Break(w) => 100 + w.rule as u32,
+        Ok(_) => 0,
+        Err(f) => failure_number(f),
     }
 }
 
@@ -64,25 +70,12 @@ fn obstacle_number(o: Obstacle) -> u32
     }
 }
 
-fn telling_number(t: Telling) -> u32
-    ensures { result ≡ refusal_number (inventory.refusal_of t) }
-{
-    match t {
-        Telling::Written => 0,
-        Telling::NoEnd => 12,
-        Telling::NoPart => 13,
-        Telling::NoRoom => 15,
-    }
-}
-
 // 0 for a pass, the refusal's number, or 100 plus the rule for a break.
 #[unsafe(no_mangle)]
 pub extern "C" fn hookup_check(bytes: &[u8]) -> u32
     ensures { result ≡ check_number (verdict bytes.now) }
 {
-    let report = check(bytes);
-    let verdict = report.verdict;
-    check_number(verdict)
+    check_number(check(bytes))
 }
 
 // 0 for a joined record, the refusal's number, or 100 plus the rule for a break; 1,000 more where B's own record is refused or breaks.
@@ -91,12 +84,11 @@ pub extern "C" fn hookup_join<'a>(a: &'a [u8], b: &'a [u8], out: &mut [u8]) -> u
     ensures value { result ≡ join_number (joining a.now b.now (length out.old)) }
     ensures out_after { out.new ≡ buffer_after (joining a.now b.now (length out.old)) (joined a.now b.now) out.old }
 {
-    let answer = join(a, b, out);
-    match answer {
-        Joining::Joined(_) => 0,
-        Joining::Unfit(side, v) => side_number(side) + check_number(v),
-        Joining::Stopped(o) => obstacle_number(o),
-        Joining::NoRoom => 15,
+    match join(a, b, out) {
+        Ok(_size) => 0,
+        Err(Unjoined::Unfit(side, f)) => side_number(side) + failure_number(f),
+        Err(Unjoined::Stopped(o)) => obstacle_number(o),
+        Err(Unjoined::NoRoom) => 15,
     }
 }
 
@@ -106,11 +98,10 @@ pub extern "C" fn hookup_closure(bytes: &[u8], out: &mut [u8]) -> u32
     ensures value { result ≡ refusal_number (closures.refusal bytes.now (length out.old)) }
     ensures out_after { out.new ≡ laid_unless (closures.refusal bytes.now (length out.old)) (closures.pieces bytes.now) out.old }
 {
-    let answer = list_closures(bytes, out);
-    match answer {
-        Listing::Written => 0,
-        Listing::Refused(r) => r.number(),
-        Listing::NoRoom => 15,
+    match list_closures(bytes, out) {
+        Ok(_written) => 0,
+        Err(Unlisted::Refused(r)) => r.number(),
+        Err(Unlisted::NoRoom) => 15,
     }
 }
 
@@ -120,44 +111,48 @@ pub extern "C" fn hookup_explain(bytes: &[u8], out: &mut [u8]) -> u32
     ensures value { result ≡ check_number (explained bytes.now (length out.old)) }
     ensures out_after { out.new ≡ explanations.buffer_after bytes.now out.old }
 {
-    let answer = explain(bytes, out);
-    match answer {
-        Explaining::Told(v) => check_number(v),
-        Explaining::NoRoom => 15,
+    match explain(bytes, out) {
+        Ok(v) => check_number(v),
+        Err(NoRoom) => 15,
     }
 }
 
 // 0 where all calls of the script were made on the shelf, with an answer to each at the start of answers; 99 or 15 where none was.
+#[tactic(auto, unfolding(crate::specs::Numbers::refusal_number))]
 #[unsafe(no_mangle)]
 pub extern "C" fn hookup_run(script: &[u8], shelf: &mut [u8], answers: &mut [u8]) -> u32
     ensures value { result ≡ refusal_number (runs.refusal script.now (length answers.old)) }
     ensures shelf_after { shelf.new ≡ shelf_after (runs.made script.now (length answers.old)) shelf.old }
     ensures answers_after { answers.new ≡ over answers.old 0 (slots (shelf_answers (runs.made script.now (length answers.old)) shelf.old)) }
 {
-    let answer = run(script, shelf, answers);
-    match answer {
-        Running::Ran => 0,
-        Running::Malformed => 99,
-        Running::TooFew => 15,
+    match run(script, shelf, answers) {
+        Ok(()) => 0,
+        Err(why) => why.number(),
     }
 }
 
 // 0 where the number of the shelf's records is written, or the refusal's number.
+#[tactic(auto, unfolding(crate::specs::Numbers::refusal_number))]
 #[unsafe(no_mangle)]
 pub extern "C" fn hookup_count(shelf: &[u8], out: &mut [u8]) -> u32
     ensures value { result ≡ refusal_number (refusal (count_told shelf.now) (length out.old)) }
     ensures out_after { out.new ≡ laid_unless (refusal (count_told shelf.now) (length out.old)) (bytes (count_told shelf.now)) out.old }
 {
-    let answer = tell_count(shelf, out);
-    telling_number(answer)
+    match tell_count(shelf, out) {
+        Ok(()) => 0,
+        Err(untold) => untold.number(),
+    }
 }
 
 // 0 where the place and the length of record i are written, or the refusal's number.
+#[tactic(auto, unfolding(crate::specs::Numbers::refusal_number))]
 #[unsafe(no_mangle)]
 pub extern "C" fn hookup_part(shelf: &[u8], i: usize, out: &mut [u8]) -> u32
     ensures value { result ≡ refusal_number (refusal (part_told shelf.now i) (length out.old)) }
     ensures out_after { out.new ≡ laid_unless (refusal (part_told shelf.now i) (length out.old)) (bytes (part_told shelf.now i)) out.old }
 {
-    let answer = tell_part(shelf, i, out);
-    telling_number(answer)
+    match tell_part(shelf, i, out) {
+        Ok(()) => 0,
+        Err(untold) => untold.number(),
+    }
 }

@@ -1,7 +1,7 @@
 // The bytes of a stream, read to its end.
 #![tactic(auto)]
 
-ghost use Rattle.std.specs.Prelude.{◌≡◌, ◌≤◌, ◌<◌, ℕ, min, length, take, drop, IfOk, IfSome, OnErr};
+ghost use Rattle.std.specs.Prelude.{◌≡◌, ◌≤◌, ◌<◌, ℕ, length, take, drop, IfOk, IfSome, OnErr};
 ghost use Rattle.std.specs.Io.KnownBytes.{Consumes, IsAtEnd, ReadConsumes};
 ghost use Rattle.input.specs.Input.{Within, Brought, ChangesFirst};
 
@@ -9,15 +9,8 @@ use std::io;
 use std::io::Read;
 use words::copy::lay;
 
-// At most the bytes of a chunk.
-fn within_chunk(n: usize) -> usize
-    ensures { result ≡ min n 4096 }
-{
-    if n < 4096 {
-        return n;
-    }
-    4096
-}
+// A read goes by way of so many bytes.
+const CHUNK: usize = 4096;
 
 // One read of at most so many bytes to the start of the chunk. 0 bytes are read at the end of the stream.
 fn read_chunk<R: Read>(reader: &mut R, chunk: &mut [u8], most: usize) -> io::Result<usize>
@@ -37,8 +30,9 @@ fn read_some<R: Read>(reader: &mut R, bytes: &mut [u8], at: usize) -> io::Result
     ensures next { ReadConsumes (R.remaining reader.old) (R.remaining reader.new) result (drop at bytes.new) }
     ensures err { OnErr result (bytes.new ≡ bytes.old) }
 {
-    let mut chunk = [0u8; 4096];
-    let n = read_chunk(reader, &mut chunk, within_chunk(bytes.len() - at))?;
+    let mut chunk = [0u8; CHUNK];
+    let most = (bytes.len() - at).min(CHUNK);
+    let n = read_chunk(reader, &mut chunk, most)?;
     lay(&chunk[..n], bytes, at);
     Ok(n)
 }
@@ -59,6 +53,7 @@ pub fn read_all<R: Read>(reader: &mut R, bytes: &mut [u8]) -> io::Result<usize>
         × Consumes (R.remaining reader.old) (R.remaining reader.new) (take n bytes.new)) }
 {
     let mut n = 0;
+    // `read_exact` and `read_to_end` do not say what a failed read leaves.
     while n < bytes.len() {
         let more = read_some(reader, bytes, n)?;
         if more == 0 {

@@ -12,6 +12,10 @@ use Rattle.words.proofs.LaidLaws.{over-append}
 use Rattle.store.specs.Walk.{walk}
 use Rattle.store.specs.Found.{Ends}
 use Rattle.store.specs.Reading.{part, place}
+use Rattle.std.specs.Prelude.{Result, Ok, Err, IsErrAnd}
+use Rattle.inventory.specs.declared.answer.Untold.{Untold}
+use Rattle.inventory.specs.declared.answer.Untold.TheVariants.{NoEnd}
+use Rattle.inventory.specs.Answers.{number_of, refusal_of}
 use Rattle.inventory.specs.Inventory.{Told, numbers, refused, count_told, part_told, bytes, refusal}
 
 -- ---- what is told
@@ -51,6 +55,11 @@ module _ {t : Told} (room : ℕ) where
   pub roomy : {ns : List ℕ} → t ≡ numbers ns → 8 * length ns ≤ room → none ≡ refusal t room
   unfolding refusal when
   roomy {ns} e h = rw (e, le-ltb room (8 * length ns) h)
+
+-- At the exit of a walk without an end record.
+pub told-no_end : (r : Result (Unit {0}) Untold) → IsErrAnd r (λ u. u ≡ NoEnd) → refusal_of r ≡ some 12
+told-no_end (Ok done) h = absurd h
+told-no_end (Err u) h = ap (λ (v : Untold). some (number_of v)) h
 
 -- ---- what is written
 

@@ -1,4 +1,4 @@
-pub mod MergedList
+pub mod Placing
 pub mod RowLaws
 pub mod HeadEntries
 pub mod PieceOrder

@@ -3,6 +3,7 @@
 
 pub mod call;
 mod entries;
+pub mod joint;
 mod places;
 mod rows;
-pub mod writer;
+mod writer;

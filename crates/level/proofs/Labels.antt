@@ -60,6 +60,6 @@ module _ (a : ℕ) where
   unfolding mislabelled
   rank_higher n = and_never _ _ (ne_eqb _ _ n)
 
-  pub rank-lowest : rank a ≡ 0 → mislabelled a ≡ not (eqb (compartments a) 0)
+  pub lowest_rank : rank a ≡ 0 → mislabelled a ≡ not (eqb (compartments a) 0)
   unfolding mislabelled
-  rank-lowest r = and_now _ _ (eq-eqb _ _ r) ∙ held
+  lowest_rank r = and_now _ _ (eq-eqb _ _ r) ∙ held

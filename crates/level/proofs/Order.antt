@@ -3,8 +3,9 @@ use Prim.Native.Nat.{ℕ, ◌^◌, ◌≤◌, ◌<◌}
 use mathlib.Core.Path.{◌≡◌, refl, sym, ap, ◌∙◌}
 use mathlib.Core.Bool.{Bool, true, false, not, ◌||◌, ◌&&◌}
 use native.Mathlib.Nat.{mod-lt}
-use lib.Dec.{T, leb, lit<}
-use borrow.Author.Tests.{leb-true, le-leb, lt-leb}
+use native.Mathlib.Decide.{ℕ_discrete as dec_eq}
+use lib.Dec.{T, leb, eqb, lit<}
+use borrow.Author.Tests.{leb-true, le-leb, lt-leb, eq-eqb, ne_eqb}
 use Rattle.bounded.specs.Search.{all}
 use Rattle.bounded.proofs.Search.{all_intro, all_at, and_left, and_right, passed, passes, is_false}
 use Rattle.words.specs.Sets.{bit, intersection}
@@ -72,7 +73,7 @@ module _ (a b : ℕ) where
   unfolding at_or_below
   rank_above h = rw (lt-leb (rank a) (rank b) h)
 
-  pub all_common : rank a ≤ rank b → intersection (compartments a) (compartments b) ≡ compartments a
+  all_common : rank a ≤ rank b → intersection (compartments a) (compartments b) ≡ compartments a
       → at_or_below a b ≡ true
   all_common r e =
       passed (at_or_below a b) ((at_or_below_iff a b).1 (record {
@@ -81,9 +82,17 @@ module _ (a b : ℕ) where
             (sym (shared a b c h) ∙ ap (λ (x : ℕ). bit x c) e ∙ bit-compartments a c h);
       }))
 
-  pub some-missing : (intersection (compartments a) (compartments b) ≡ compartments a → ⊥) → at_or_below a b ≡ false
+  some-missing : (intersection (compartments a) (compartments b) ≡ compartments a → ⊥) → at_or_below a b ≡ false
   some-missing n =
       is_false (at_or_below a b) (λ t.
       n (same_members 6 _ _ (intersection_lt 6 _ _ (compartments_lt a) (compartments_lt b)) (compartments_lt a) (λ c h.
       shared a b c h ∙ left_is_both (bit a c) (bit b c) (((at_or_below_iff a b).0 (passes t)).within c h)
       ∙ sym (bit-compartments a c h))))
+
+  -- Where the ranks allow it, the comparison of the compartments is the test.
+  pub compared : rank a ≤ rank b → eqb (intersection (compartments a) (compartments b)) (compartments a) ≡ at_or_below a b
+  compared r =
+      elim (dec_eq (intersection (compartments a) (compartments b)) (compartments a)) [
+        | yes e ↦ eq-eqb _ _ e ∙ sym (all_common r e)
+        | no n ↦ ne_eqb _ _ n ∙ sym (some-missing n)
+      ]

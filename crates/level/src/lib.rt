@@ -19,12 +19,14 @@ impl Level {
 
     const COMPARTMENT_SETS: u8 = 1 << Level::COMPARTMENTS;
 
+    #[tactic(auto, unfolding(crate::specs::Level::rank))]
     pub fn rank(level: u8) -> u8
         ensures { result ≡ rank level }
     {
         level / Level::ONE_RANK
     }
 
+    #[tactic(auto, unfolding(crate::specs::Level::compartments))]
     pub fn compartments(level: u8) -> u8
         ensures { result ≡ compartments level }
     {
@@ -37,28 +39,20 @@ impl Level {
     {
         let own = Level::compartments(a);
         let common = own & Level::compartments(b);
-        if Level::rank(b) < Level::rank(a) {
-            return false;
-        }
-        if common == own {
-            return true;
-        }
-        false
+        Level::rank(a) <= Level::rank(b) && common == own
     }
 
+    #[tactic(auto, unfolding(crate::specs::Level::low))]
     pub fn is_low(observer: u8, level: u8) -> bool
         ensures { result ≡ low observer level }
     {
         Level::at_or_below(level, observer)
     }
 
-    #[tactic(auto, using(crate::proofs::Labels::rank_higher))]
+    #[tactic(auto, using(crate::proofs::Labels::rank_higher, crate::proofs::Labels::lowest_rank))]
     pub fn is_mislabelled(level: u8) -> bool
         ensures { result ≡ mislabelled level }
     {
-        if Level::rank(level) != 0 {
-            return false;
-        }
-        Level::compartments(level) != 0
+        Level::rank(level) == 0 && Level::compartments(level) != 0
     }
 }

@@ -9,9 +9,9 @@ ghost use Rattle.composite.specs.Answers.{obstacle_of};
 ghost use Rattle.limits.specs.Pairs.{part_over, inputs_over};
 ghost use Rattle.limits.specs.Pairs.{line_end, answer_line, pair_line, states_lines, entries_lines};
 
-use composite::answer::{Joining, Obstacle};
+use composite::answer::{Obstacle, Unjoined};
 use join::call::join;
-use part::Part;
+use part::Kind;
 use std::io;
 use std::io::Write;
 use words::le;
@@ -23,8 +23,8 @@ fn put_part(out: &mut [u8], states: u8, events: u8)
     ensures { out.new ≡ part_over out.old states events }
 {
     let body = out.len() - 6;
-    le::put32(out, 0, body as u64);
-    le::put16(out, 4, Part::SINGLE as u64);
+    le::put::<4>(out, 0, body as u64);
+    le::put::<2>(out, 4, Kind::Single as u64);
     out[7] = states;
     out[9] = events;
 }
@@ -38,11 +38,9 @@ fn put_inputs(out: &mut [u8], first: u8, m: u8)
 {
     put_part(out, 1, m);
     let rows = 11 + 4 * m as usize;
-    let mut i = 0;
-    while i < m {
+    for i in 0..m {
         out[11 + 4 * i as usize] = first + i;
         out[rows + 8 * i as usize] = 1;
-        i += 1;
     }
 }
 
@@ -81,12 +79,11 @@ fn line<'a, W: Write>(words: &[u8], a: &'a [u8], b: &'a [u8], writer: &mut W) ->
 {
     writer.write_all(words)?;
     let mut out = [0u8; 1024];
-    let answer = join(a, b, &mut out);
-    match answer {
-        Joining::Joined(n) => end_line(b"joined ", n as u64, writer),
-        Joining::Stopped(o) => stopped(o, writer),
-        Joining::Unfit(_, _) => no_record(writer),
-        Joining::NoRoom => no_record(writer),
+    match join(a, b, &mut out) {
+        Ok(n) => end_line(b"joined ", n as u64, writer),
+        Err(Unjoined::Stopped(o)) => stopped(o, writer),
+        Err(Unjoined::Unfit(_, _)) => no_record(writer),
+        Err(Unjoined::NoRoom) => no_record(writer),
     }
 }
 

@@ -1,3 +1,4 @@
 pub mod Fields
 pub mod Rising
 pub mod Places
+pub mod KindBytes

@@ -1,6 +1,6 @@
 -- The search for an event's place, along identifiers that rise, and what stands under an identifier.
 use Prim.Native.Nat.{ℕ, ◌+◌, ◌-◌, ◌≤◌, ◌<◌}
-use mathlib.Core.Path.{◌≡◌, refl, sym, ap, ◌∙◌, subst}
+use mathlib.Core.Path.{◌≡◌, refl, subst}
 use mathlib.Core.Logic.{◌↔◌}
 use mathlib.Core.List.{List}
 use mathlib.Core.Option.{Option, none, some}
@@ -14,7 +14,6 @@ use Rattle.machine.specs.Machine.{Kind, absent, event}
 use Rattle.words.specs.Sets.{bit}
 use Rattle.part.specs.Record.{events, identifier, event_kind, level, row}
 use Rattle.part.specs.Frame.{Rising}
-use Rattle.part.specs.Frame.{place_or_end}
 use Rattle.part.specs.Events.{kind_of, at_place, place, event_of, Leads}
 use Rattle.part.proofs.Rising.{rises_le}
 
@@ -44,31 +43,6 @@ module _ (b : List ℕ) (e : ℕ) where
       let s = at_some b e _ i w.found in
       (subst (λ (j : ℕ). j < events b) s.0 w.below, subst (λ (j : ℕ). identifier b j ≡ e) s.0 s.1)
 
-  -- ---- the place, or the number of events
-
-  pub place_end_none : place b e ≡ none → place_or_end b e ≡ events b
-  unfolding place_or_end
-  place_end_none p = rw (p, place_or_end)
-
-  pub place_end_some : (i : ℕ) → place b e ≡ some i → place_or_end b e ≡ i
-  unfolding place_or_end
-  place_end_some i p = rw (p, place_or_end)
-
-  -- below the number of events it is the place; otherwise e has none
-  pub end_placed : place_or_end b e < events b → place b e ≡ some (place_or_end b e)
-  end_placed h = go (place b e) refl
-    where
-      go : (o : Option ℕ) → place b e ≡ o → place b e ≡ some (place_or_end b e)
-      go none p = absurd (omega (arith, place_end_none p))
-      go (some i) p = p ∙ ap some (sym (place_end_some i p))
-
-  pub end_absent : events b ≤ place_or_end b e → place b e ≡ none
-  end_absent h = go (place b e) refl
-    where
-      go : (o : Option ℕ) → place b e ≡ o → place b e ≡ none
-      go none p = p
-      go (some i) p = absurd (omega (arith, place_end_some i p, (place-stands i p).0))
-
   -- ---- the loop that looks for e: not at the places below i
 
   abbrev pub Missed : ℕ → Type 0
@@ -81,13 +55,13 @@ module _ (b : List ℕ) (e : ℕ) where
   pub missed_next : (i : ℕ) → Missed i → (identifier b i ≡ e → ⊥) → Missed (i + 1)
   missed_next i p n = first_more _ i p (at_other b e i n)
 
-  pub place_hit : (i : ℕ) → i < events b → Missed i → identifier b i ≡ e → i ≡ place_or_end b e
+  pub place_hit : (i : ℕ) → i < events b → Missed i → identifier b i ≡ e → place b e ≡ some i
   unfolding place
-  place_hit i h p q = sym (place_end_some i (first_hit _ _ i i h p (at_same b e i q)))
+  place_hit i h p q = first_hit _ _ i i h p (at_same b e i q)
 
-  pub place_done : (i : ℕ) → i ≡ events b → Missed i → i ≡ place_or_end b e
+  pub place_done : (i : ℕ) → i ≡ events b → Missed i → place b e ≡ none
   unfolding place
-  place_done i q p = q ∙ sym (place_end_none (first_done _ _ i q p))
+  place_done i q p = first_done _ _ i q p
 
   -- ---- where the identifiers rise: what one place tells
 
@@ -103,22 +77,20 @@ module _ (b : List ℕ) (e : ℕ) where
             λ j l. at_other b e j (λ p. omega (arith, up j i l h));
       })
 
-  pub rising_hit : Rising b → (i : ℕ) → i < events b → identifier b i ≡ e → i ≡ place_or_end b e
-  rising_hit up i h q = sym (place_end_some i (rising_place up i h q))
-
   -- e lies between the identifiers before the place i and at it
   pub rising_gap : Rising b → (i : ℕ) → i ≤ events b → (i < events b → e < identifier b i)
       → (0 < i → identifier b (i - 1) < e)
-      → events b ≡ place_or_end b e
+      → place b e ≡ none
   unfolding place
   rising_gap up i h above below =
       let le = rises_le _ _ up in
-      sym
-      (place_end_none (first-nothing _ _ (λ j l. at_other b e j (λ q.
+      first-nothing _ _ (λ j l. at_other b e j (λ q.
       elim (dec_lt j i) [
         | yes n ↦ omega (arith, below (omega arith), le j (i - 1) (omega arith) (omega arith))
         | no n ↦ omega (arith, above (omega arith), le i j (omega arith) l)
-      ]))))
+      ]))
+
+pub ruleset looking = (missed_none, missed_next, place_hit, place_done)
 
 module _ (b : List ℕ) (e : ℕ) where
   pub event-none : place b e ≡ none → event_of b e ≡ absent

@@ -1,5 +1,5 @@
 -- Words in which functions that read a record say what they need of it and what they answer. No promise of a call rests on this page.
-use Rattle.std.specs.Prelude.{ℕ, ◌≤◌, ◌<◌, ◌≡◌, List, length}
+use Rattle.std.specs.Prelude.{ℕ, ◌≤◌, ◌<◌, ◌≡◌, List, length, Option, MatchOption}
 use Rattle.std.proofs.Math.Option.{none, some}
 use Rattle.part.specs.declared.format.Counts.{Counts}
 use Rattle.part.specs.declared.format.Form.{Form}
@@ -67,6 +67,6 @@ table_of b = record {
 abbrev pub fields_of : List ℕ → Fields
 fields_of b = record { kind = kind b; lead = lead b; table = table_of b; listed = listed_level b; class = class b }
 
--- The place of the event with identifier e, or the number of events where it has none.
-unfoldable pub place_or_end : List ℕ → ℕ → ℕ
-place_or_end b e = elim (place b e) [ none ↦ events b | some i ↦ i ]
+-- What a search for the event with identifier e finds: its place, if it has one.
+abbrev pub FindsPlace : List ℕ → ℕ → Option ℕ → Type 0
+FindsPlace b e found = MatchOption found (place b e ≡ none) (λ i. (i < events b) × (place b e ≡ some i))

@@ -3,7 +3,9 @@
 
 mod field;
 pub mod format;
+mod framed;
 mod place;
 
 pub use field::{Part, classes_with};
-pub use format::{Counts, Form};
+pub use format::{Counts, EventKind, Form, Kind, UnknownKind};
+pub use framed::Record;

@@ -1,29 +1,28 @@
 // The form of a record by its kind; where its parts begin, and how long it is, by its counts (specs/Format.antt).
-ghost use Rattle.std.specs.Prelude.{◌≡◌, ◌<◌, cond};
-ghost use Rattle.part.specs.Format.{form, column_at, entries_at, rows_at, body_size, record_size};
+ghost use Rattle.std.specs.Prelude.{ℕ, ◌≡◌, ◌<◌, cond};
+ghost use Rattle.part.specs.Format.{one_observer, several_observers, limited_part, form};
+ghost use Rattle.part.specs.Format.{column_at, entries_at, rows_at, body_size, record_size};
 ghost use Rattle.part.specs.Frame.{Few};
+ghost use Rattle.part.specs.Kinds.{kind_with};
 
 use crate::field::Part;
-use crate::format::{Counts, Form};
+use crate::format::{Counts, Form, Kind};
 
-// x where the test holds, and otherwise y. The form of a record is chosen by such values and not by branches, so that a loop that reads fields
-// finds it once.
+// x where the test holds, and otherwise y. A form is put together of such values, not by branches over the kind: with
+// branches, loops that read fields ask for the kind at each field, and calls took 1.07 for 1.03 times as long as before
+// there were limited records (docs/LANDINGS.md).
 fn choose(test: bool, x: usize, y: usize) -> usize
     ensures { result ≡ cond test x y }
 {
-    if test {
-        return x;
-    }
-    y
+    if test { x } else { y }
 }
 
 impl Form {
-    // The form of a record of this kind, with this first byte.
-    pub fn of(kind: usize, lead: usize) -> Form
-        ensures { result ≡ form kind lead }
+    // The form of a record with this first byte, by two tests of its kind. Readers take it by the number of the kind: by
+    // an Option of a Kind screening a part of 8 states took 1.5 times as long.
+    pub(crate) fn choice(several: bool, limited: bool, lead: usize) -> Form
+        ensures { result ≡ cond several (several_observers lead) (cond limited limited_part one_observer) }
     {
-        let several = kind == Part::SEVERAL;
-        let limited = kind == Part::LIMITED;
         Form {
             observers: choose(several, lead, 1),
             levels: choose(several, Part::LISTS, Part::HEADER),
@@ -32,8 +31,21 @@ impl Form {
             finer: choose(several, 0, choose(limited, 1, 0)),
         }
     }
+
+    // The form of a record of this kind, with this first byte. One of no known kind has the form of a single one.
+    pub fn of(kind: Option<Kind>, lead: usize) -> Form
+        ensures { (k : ℕ) → kind ≡ kind_with k → result ≡ form k lead }
+    {
+        Form::choice(
+            kind == Some(Kind::Several),
+            kind == Some(Kind::Limited),
+            lead,
+        )
+    }
 }
 
+// `Few` is asked by each method and is no ghost field: the format names the counts of any bytes (`counts`,
+// specs/Record.antt), also of those that are none of a record.
 impl Counts {
     // Column j, behind the list and the columns before it. A column has a byte for each state.
     pub fn column_at(self, j: usize) -> usize

@@ -1,5 +1,5 @@
 -- A loop over the states that counts, by class, the fine classes that it has seen; and the largest of the counts.
-use Prim.Native.Nat.{ℕ, ◌+◌, ◌≤◌, ◌<◌}
+use Prim.Native.Nat.{ℕ, ◌+◌, ◌≤◌, ◌<◌, max}
 use mathlib.Core.Path.{◌≡◌, refl, sym, ap, ◌∙◌}
 use mathlib.Core.Bool.{Bool, true, false, not, ◌&&◌, cond}
 use mathlib.Core.List.{List}
@@ -7,6 +7,10 @@ use native.Mathlib.Nat.{add-zero}
 use lib.Dec.{eqb}
 use lib.ListN.{get_or, set, replicate}
 use borrow.Author.Tests.{eqb-true, eq-eqb, ne_eqb}
+use native.Mathlib.Omega.{arith}
+use mir.Val.{bool_byte}
+use Rattle.std.specs.Ordering.{ord_max, nat_cmp}
+use Rattle.std.proofs.lemmas.Bool.Decides.{nat_tests}
 use Rattle.bounded.specs.Search.{any, count, largest}
 use Rattle.bounded.proofs.Search.{any_at, any_found, same_truth, count_le, count_next, largest-same}
 use Rattle.words.specs.Sets.{bit}
@@ -24,6 +28,15 @@ first-unseen fine n x seen =
     (same_truth (any n earlier) _
     (λ e. let (u, h, same) = any_found n earlier e in ap (bit x) (sym (eqb-true _ _ same)) ∙ seen.has u h)
     (λ e. let (u, h, same) = seen.only (fine n) e in any_at earlier n u h (eq-eqb _ _ same)))
+
+-- The larger of two numbers, as the library's `max` tells it.
+pub larger : (x y : ℕ) → ord_max nat_cmp x y ≡ max x y
+larger x y = grind (arith, nat_tests)
+
+-- One more, or none.
+pub bool-most : (b : Bool) → bool_byte (not b) ≤ 1
+bool-most true = omega arith
+bool-most false = omega arith
 
 module _ (class fine : ℕ → ℕ) where
   -- y is the number of fine classes whose first state is below n and has class c.
@@ -47,7 +60,7 @@ module _ (class fine : ℕ → ℕ) where
 
   -- The state n of class k counts one more at k, where its fine class is not seen yet.
   pub counted-more : (n k j x y : ℕ) (counts : List ℕ) → k ≡ class n → k < 64 → j ≡ fine n → Seen fine n x
-      → y ≡ get_or counts k 0 + cond (bit x j) 0 1
+      → y ≡ get_or counts k 0 + bool_byte (not (bit x j))
       → Counted n counts → Counted (n + 1) (set counts k y)
   counted-more n k j x y counts of-class small of-fine seen more before =
       by_class_put Counts n _ k y _ small before
@@ -61,7 +74,7 @@ module _ (class fine : ℕ → ℕ) where
       ) (one (bit x (fine n)) _))
       (λ c d z h. rw (h, fine_classes_next n c, ne_eqb _ c (λ e. d (of-class ∙ e))) (sym (add-zero _)))
     where
-      one : (b : Bool) (k : ℕ) → k + cond b 0 1 ≡ k + cond (not b) 1 0
+      one : (b : Bool) (k : ℕ) → k + bool_byte (not b) ≡ k + cond (not b) 1 0
       one true k = refl
       one false k = refl
 

@@ -1,6 +1,6 @@
 -- A loop over the states that keeps the classes it has seen: whether two states share one, and the first word of each.
 use Prim.Native.Nat.{ℕ, ◌+◌, ◌<◌}
-use mathlib.Core.Path.{◌≡◌, refl, sym, ap, ◌∙◌, subst}
+use mathlib.Core.Path.{◌≡◌, refl, sym, ap, ◌∙◌}
 use mathlib.Core.Bool.{true, false, ◌||◌, or-true}
 use mathlib.Core.Logic.{⊎_elim}
 use mathlib.Core.List.{List}
@@ -9,16 +9,13 @@ use native.Mathlib.Omega.{arith}
 use lib.ListN.{length, get_or, set}
 use lib.Dec.{eqb}
 use borrow.Author.Tests.{eqb-true, eq-eqb}
+use borrow.Author.Count.{below_more}
 use Rattle.bounded.proofs.Search.{or_now, or-then, true_or_false, true_not_false}
 use Rattle.words.specs.Sets.{bit, union, single}
 use Rattle.words.proofs.Sets.{bit_zero, bit-single, bit-union}
 use Rattle.partition.specs.Classes.{same_class}
 use Rattle.partition.specs.Sets.{AllDistinct, ClasswiseEqual}
 use Rattle.partition.proofs.ClassRows.{ByClass, by_class_put}
-
--- What holds below n and at n holds below n + 1.
-last_too : {A : ℕ → Type 0} (n : ℕ) → ((u : ℕ) → u < n → A u) → A n → (u : ℕ) → u < n + 1 → A u
-last_too {A} n f here u h = elim (dec_lt u n) [ yes l ↦ f u l | no l ↦ let e : n ≡ u = omega arith in subst A e here ]
 
 module _ (class : ℕ → ℕ) where
   -- The word has the classes of the first n states, and no others.
@@ -31,7 +28,7 @@ module _ (class : ℕ → ℕ) where
 
   pub seen_kept : (n k x : ℕ) → k ≡ class n → bit x k ≡ true → Seen n x → Seen (n + 1) x
   seen_kept n k x of-class e before = record {
-    has = last_too n before.has (rw (← of-class) e);
+    has = below_more (λ u. bit x (class u) ≡ true) n before.has (rw (← of-class) e);
     only = λ c q. let w = before.only c q in (w.0, omega (arith, w.1), w.2);
   }
 
@@ -40,7 +37,7 @@ module _ (class : ℕ → ℕ) where
       let either : (c : ℕ) → bit y c ≡ (bit x c || eqb k c) = λ c. rw (more, bit-union x _ c, bit-single k c) refl in
       record {
         has =
-            last_too n (λ u h. either (class u) ∙ or_now (bit x (class u)) (eqb k (class u)) (before.has u h))
+            below_more (λ u. bit y (class u) ≡ true) n (λ u h. either (class u) ∙ or_now (bit x (class u)) (eqb k (class u)) (before.has u h))
             (either _ ∙ rw (eq-eqb k _ of-class) (or-true (bit x (class n))));
         only = λ c q.
             ⊎_elim
@@ -117,7 +114,7 @@ module _ (class : ℕ → ℕ) (words : List ℕ) where
       → Firsts (n + 1) firsts
   firsts_more n k firsts of-class e before = record {
     size = before.size;
-    rows = λ c h. last_too n (before.rows c h) (λ q. sym e ∙ ap (λ (d : ℕ). get_or firsts d 0) (of-class ∙ q));
+    rows = λ c h. below_more (λ u. class u ≡ c → get_or words u 0 ≡ get_or firsts c 0) n (before.rows c h) (λ q. sym e ∙ ap (λ (d : ℕ). get_or firsts d 0) (of-class ∙ q));
   }
 
   pub firsts_equal : (n m : ℕ) (firsts : List ℕ) → m ≡ n → ((s : ℕ) → s < n → class s < 64) → Firsts m firsts

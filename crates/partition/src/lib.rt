@@ -3,3 +3,5 @@
 
 pub mod classes;
 pub mod limit;
+
+pub use classes::{Column, Columns};

@@ -1,17 +1,16 @@
 -- The sets of the events that the rules speak of, from those of the inputs, of the events that the observer sees and of
 -- the others.
-use Prim.Native.Nat.{ℕ, zero, suc, ◌+◌, ◌<◌}
+use Prim.Native.Nat.{ℕ, ◌+◌, ◌<◌}
 use mathlib.Core.Path.{◌≡◌, refl, sym, ap, ◌∙◌}
 use mathlib.Core.Bool.{Bool, true, false, not, ◌||◌, ◌&&◌, and-true, and-false, or-false}
-use mathlib.Core.List.{List, [], ◌∷◌}
+use mathlib.Core.List.{List}
 use native.Mathlib.Omega.{arith}
 use lib.Dec.{eqb, ltb}
-use lib.ListN.{get_or}
 use borrow.Author.Tests.{le-ltb}
 use Rattle.words.specs.Sets.{bit, union, intersection, difference, single, Represents}
 use Rattle.words.proofs.Sets.{bit_zero, bit-union, bit-intersection, bit-difference, bit-single}
 use Rattle.part.specs.Record.{events, event_kind}
-use Rattle.relations.specs.Sets.{seen_at, Concerned}
+use Rattle.relations.specs.Sets.{seen_at, Concerned, RolesOf}
 use Rattle.relations.proofs.Roles.{speaks, concerned-speaks}
 use Rattle.partition.proofs.Sorted.{below_next}
 
@@ -64,19 +63,15 @@ module _ (b : List ℕ) (l : ℕ) where
   told : (k x : ℕ) → k < 5 → Marked (λ i. speaks k (is_input i) (seen_at b l i)) (events b) x → Concerned b l k x
   told k x h m j = m j ∙ ap (λ (p : Bool). ltb j (events b) && p) (sym (concerned-speaks b l j k h))
 
-  pub concerned-all : (inputs seen unseen two three four five : ℕ) → Marked is_input (events b) inputs
+  pub roles_all : (inputs seen unseen two three four five : ℕ) → Marked is_input (events b) inputs
       → Marked (seen_at b l) (events b) seen → Marked is_unseen (events b) unseen
       → two ≡ intersection inputs unseen → three ≡ intersection inputs seen
       → four ≡ difference unseen inputs → five ≡ difference seen inputs
-      → (k : ℕ) → k < 5 → Concerned b l k (get_or (inputs ∷ two ∷ three ∷ four ∷ five ∷ []) k 0)
-  concerned-all inputs seen unseen two three four five i s u e2 e3 e4 e5 zero h = told 0 inputs h i
-  concerned-all inputs seen unseen two three four five i s u e2 e3 e4 e5 (suc zero) h =
-      told 1 two h (marked_both is_input is_unseen _ _ _ _ i u e2)
-  concerned-all inputs seen unseen two three four five i s u e2 e3 e4 e5 (suc (suc zero)) h =
-      told 2 three h (marked_both is_input (seen_at b l) _ _ _ _ i s e3)
-  concerned-all inputs seen unseen two three four five i s u e2 e3 e4 e5 (suc (suc (suc zero))) h =
-      told 3 four h (marked_first is_unseen is_input _ _ _ _ u i e4)
-  concerned-all inputs seen unseen two three four five i s u e2 e3 e4 e5 (suc (suc (suc (suc zero)))) h =
-      told 4 five h (marked_first (seen_at b l) is_input _ _ _ _ s i e5)
-  concerned-all inputs seen unseen two three four five i s u e2 e3 e4 e5 (suc (suc (suc (suc (suc k))))) h =
-      absurd (omega arith)
+      → RolesOf b l (record { inputs = inputs; high_inputs = two; low_inputs = three; silent_events = four; low_outputs = five })
+  roles_all inputs seen unseen two three four five i s u e2 e3 e4 e5 = record {
+    inputs = told 0 inputs (omega arith) i;
+    high_inputs = told 1 two (omega arith) (marked_both is_input is_unseen _ _ _ _ i u e2);
+    low_inputs = told 2 three (omega arith) (marked_both is_input (seen_at b l) _ _ _ _ i s e3);
+    silent_events = told 3 four (omega arith) (marked_first is_unseen is_input _ _ _ _ u i e4);
+    low_outputs = told 4 five (omega arith) (marked_first (seen_at b l) is_input _ _ _ _ s i e5);
+  }

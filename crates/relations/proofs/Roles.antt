@@ -1,12 +1,11 @@
 -- The tests of roles are what the rules ask; and which rules speak of an event, by whether it is an input and whether
 -- the observer sees it.
-use Prim.Native.Nat.{ℕ, zero, suc, ◌≤◌, ◌<◌}
+use Prim.Native.Nat.{ℕ, zero, suc, ◌<◌}
 use mathlib.Core.Path.{◌≡◌, refl, sym, ap, ◌∙◌}
 use mathlib.Core.Bool.{Bool, true, false, not, beq, ◌&&◌}
 use mathlib.Core.List.{List}
 use mathlib.Core.Logic.Iff
-use mathlib.Core.Logic.{◌↔◌}
-use native.Mathlib.Omega.{arith}
+use mathlib.Core.Logic.{◌↔◌, ◌⊎◌, inl, inr}
 use lib.Dec.{T, eqb, eqb-suc-zero}
 use Rattle.bounded.specs.Search.{all}
 use Rattle.bounded.proofs.Search.{all_at}
@@ -17,6 +16,11 @@ use Rattle.machine.specs.Rules.{Rule, rule_1, rule_2, rule_3, rule_4, rule_5}
 use Rattle.level.specs.Level.{low}
 use Rattle.part.specs.Record.{event_kind, level}
 use Rattle.part.specs.Events.{kind_of}
+use denote.Enum.Bare.{sameb}
+use Rattle.part.specs.contracts.format.EventKind as event-kind
+use Rattle.part.specs.declared.format.EventKind.{EventKind}
+use Rattle.part.specs.declared.format.EventKind.TheVariants.{Input, Output, Internal}
+use Rattle.part.specs.Kinds.{machine_kind}
 use Rattle.relations.specs.Sets.{is_seen, seen_at}
 use Rattle.relations.specs.Relations.{role_at, role_number, is_role, concerns, rule_at}
 
@@ -95,28 +99,49 @@ kind-input (suc zero) true = refl
 kind-input (suc zero) false = refl
 kind-input (suc (suc k)) l = sym (eqb-suc-zero (suc k))
 
-kind_seen : (k : ℕ) (l : Bool) → k < 2 → is_seen (at_level (kind_of k) l) ≡ l
-unfolding kind_of at_level
-kind_seen zero true h = refl
-kind_seen zero false h = refl
-kind_seen (suc zero) true h = refl
-kind_seen (suc zero) false h = refl
-kind_seen (suc (suc k)) l h = absurd (omega arith)
+-- The test of the code for an input.
+abbrev input_test : Kind → Bool
+input_test input = true
+input_test output = false
+input_test internal = false
 
-kind-unseen : (k : ℕ) (l : Bool) → 2 ≤ k → is_seen (at_level (kind_of k) l) ≡ false
-unfolding kind_of at_level
-kind-unseen zero l h = absurd (omega arith)
-kind-unseen (suc zero) l h = absurd (omega arith)
-kind-unseen (suc (suc k)) l h = refl
+input_told : (k : EventKind) → sameb event-kind.the_type k Input ≡ input_test (machine_kind k)
+input_told Input = refl
+input_told Output = refl
+input_told Internal = refl
+
+input_of : (k : ℕ) → input_test (kind_of k) ≡ eqb k 0
+unfolding kind_of
+input_of zero = refl
+input_of (suc zero) = refl
+input_of (suc (suc k)) = sym (eqb-suc-zero (suc k))
+
+pub is_input_kind : (k : EventKind) (n : ℕ) → machine_kind k ≡ kind_of n → sameb event-kind.the_type k Input ≡ eqb n 0
+is_input_kind k n e = input_told k ∙ ap input_test e ∙ input_of n
+
+input_seen : (l : Bool) → is_seen (at_level input l) ≡ l
+unfolding at_level
+input_seen true = refl
+input_seen false = refl
+
+output_seen : (l : Bool) → is_seen (at_level output l) ≡ l
+unfolding at_level
+output_seen true = refl
+output_seen false = refl
 
 module _ (b : List ℕ) (l i : ℕ) where
-  pub internal-unseen : 2 ≤ event_kind b i → seen_at b l i ≡ false
+  seen_as : (k : Kind) → k ≡ kind_of (event_kind b i) → seen_at b l i ≡ is_seen (at_level k (low l (level b i)))
   unfolding role_at role_of
-  internal-unseen h = kind-unseen (event_kind b i) (low l (level b i)) h
+  seen_as k e = ap (λ (k : Kind). is_seen (at_level k (low l (level b i)))) (sym e)
 
-  pub seen_by_level : event_kind b i < 2 → seen_at b l i ≡ low l (level b i)
-  unfolding role_at role_of
-  seen_by_level h = kind_seen (event_kind b i) (low l (level b i)) h
+  pub internal-unseen : internal ≡ kind_of (event_kind b i) → seen_at b l i ≡ false
+  unfolding at_level
+  internal-unseen e = seen_as internal e
+
+  pub seen_by_level : (k : EventKind) → machine_kind k ≡ kind_of (event_kind b i) → (k ≡ Input) ⊎ (k ≡ Output)
+      → seen_at b l i ≡ low l (level b i)
+  seen_by_level k e (inl q) = seen_as input (ap machine_kind (sym q) ∙ e) ∙ input_seen _
+  seen_by_level k e (inr q) = seen_as output (ap machine_kind (sym q) ∙ e) ∙ output_seen _
 
 pub concerned-speaks : (b : List ℕ) (l i k : ℕ) → k < 5
     → concerns (rule_at k) (role_at b l i) ≡ speaks k (eqb (event_kind b i) 0) (seen_at b l i)

@@ -1,25 +1,48 @@
 // The events of a record: which of them a rule speaks of, and where one leads.
-ghost use Rattle.std.specs.Prelude.{ℕ, ◌<◌, ◌≡◌, ◌||◌, ◌&&◌, eqb, get_or};
+ghost use Rattle.std.specs.Prelude.{suc, ◌<◌, ◌≡◌, ◌||◌, ◌&&◌, eqb, get_or};
 ghost use Rattle.words.specs.Arrays.{Filled, sets_of};
 ghost use Rattle.words.specs.Sets.{bit, Represents, gathered};
 ghost use Rattle.part.specs.Record.{states, events, row};
-ghost use Rattle.part.specs.Frame.{Framed};
-ghost use Rattle.relations.specs.Sets.{seen_at, Concerned};
+ghost use Rattle.relations.specs.Sets.{place_of, seen_at, RolesOf};
 
 use level::Level;
-use part::Part;
+use part::{EventKind, Record};
 use words::set;
 
-// The rules, as places in an array by rule.
-pub const RULE_1: usize = 0;
+// The five rules, in their order, each named after the events that it speaks of.
+#[derive(Clone, Copy, PartialEq, Eq)]
+pub enum Rule {
+    Inputs,
+    HighInputs,
+    LowInputs,
+    SilentEvents,
+    LowOutputs,
+}
 
-pub const RULE_2: usize = 1;
+impl Rule {
+    // Its number, from 1.
+    pub fn number(self) -> usize
+        ensures { result ≡ suc (place_of self) }
+    {
+        match self {
+            Rule::Inputs => 1,
+            Rule::HighInputs => 2,
+            Rule::LowInputs => 3,
+            Rule::SilentEvents => 4,
+            Rule::LowOutputs => 5,
+        }
+    }
+}
 
-pub const RULE_3: usize = 2;
-
-pub const RULE_4: usize = 3;
-
-pub const RULE_5: usize = 4;
+// The events that the rules speak of, as a set for each rule.
+#[derive(Clone, Copy)]
+pub struct Roles {
+    pub inputs: u64,
+    pub high_inputs: u64,
+    pub low_inputs: u64,
+    pub silent_events: u64,
+    pub low_outputs: u64,
+}
 
 // The set, and i with it where the test holds.
 fn mark(x: u64, i: usize, test: bool) -> u64
@@ -27,60 +50,54 @@ fn mark(x: u64, i: usize, test: bool) -> u64
     ensures { Represents result (λ j. bit x j || eqb i j && test) }
 {
     if test {
-        return set::union(x, set::single(i));
+        set::union(x, set::single(i))
+    } else {
+        x
     }
-    x
 }
 
 // The observer sees the event at place i: an input or an output at a low level, and no internal event.
-fn is_seen(b: &[u8], observer: u8, i: usize) -> bool
-    requires framed { Framed b.now }
-    requires i_bound { i < events b.now }
-    ensures { result ≡ seen_at b.now observer i }
+fn is_seen(b: Record, observer: u8, i: usize) -> bool
+    requires { i < events b.bytes.now }
+    ensures { result ≡ seen_at b.entry.bytes.now observer i }
 {
-    if Part::event_kind(b, i) >= Part::INTERNAL {
-        return false;
+    match b.event_kind(i) {
+        EventKind::Internal => false,
+        EventKind::Input | EventKind::Output => Level::is_low(observer, b.level(i)),
     }
-    Level::is_low(observer, Part::level(b, i))
 }
 
-// By rule, the set of the events that it speaks of.
-pub fn concerned(b: &[u8], observer: u8) -> [u64; 5]
-    requires { Framed b.now }
-    ensures { (k : ℕ) → k < 5 → Concerned b.now observer k (get_or result k 0) }
-{
-    let m = Part::events(b);
-    let mut inputs = 0;
-    let mut seen = 0;
-    let mut unseen = 0;
-    let mut i = 0;
-    while i < m {
-        let sees = is_seen(b, observer, i);
-        inputs = mark(inputs, i, Part::event_kind(b, i) == 0);
-        seen = mark(seen, i, sees);
-        unseen = mark(unseen, i, !sees);
-        i += 1;
+impl Roles {
+    // The roles of a record's events for an observer of this level.
+    pub fn of(b: Record, observer: u8) -> Roles
+        ensures { RolesOf b.entry.bytes.now observer result }
+    {
+        let mut inputs = 0;
+        let mut seen = 0;
+        let mut unseen = 0;
+        for i in 0..b.events() {
+            let sees = is_seen(b, observer, i);
+            inputs = mark(inputs, i, b.event_kind(i) == EventKind::Input);
+            seen = mark(seen, i, sees);
+            unseen = mark(unseen, i, !sees);
+        }
+        Roles {
+            inputs,
+            high_inputs: set::intersection(inputs, unseen),
+            low_inputs: set::intersection(inputs, seen),
+            silent_events: set::difference(unseen, inputs),
+            low_outputs: set::difference(seen, inputs),
+        }
     }
-    let mut sets = [inputs; 5];
-    sets[RULE_2] = set::intersection(inputs, unseen);
-    sets[RULE_3] = set::intersection(inputs, seen);
-    sets[RULE_4] = set::difference(unseen, inputs);
-    sets[RULE_5] = set::difference(seen, inputs);
-    sets
 }
 
 // Over the start of out: of each state, what the event at place i leads to, looked up in the table.
-pub fn look_up(out: &mut [u64; 64], b: &[u8], i: usize, table: &[u64; 64])
-    requires framed { Framed b.now }
-    requires i_bound { i < events b.now }
-    ensures { Filled (sets_of (λ s. gathered 64 (row b.now i s) table.now)) (states b.now) out.old out.new }
+pub fn look_up(out: &mut [u64; 64], b: Record, i: usize, table: &[u64; 64])
+    requires { i < events b.bytes.now }
+    ensures { Filled (sets_of (λ s. gathered 64 (row b.entry.bytes.now i s) table.now)) (states b.entry.bytes.now) out.old out.new }
 {
-    let n = Part::states(b);
-    let at = Part::rows(b, i);
-    let words = &mut out[..];
-    let mut s = 0;
-    while s < n {
-        words[s] = set::gather(Part::row_from(b, at, i, s), table);
-        s += 1;
+    let at = b.rows(i);
+    for s in 0..b.states() {
+        out[s] = set::gather(b.row_from(at, i, s), table);
     }
 }

@@ -1,5 +1,5 @@
 -- The cases of a transcript.
-use Rattle.std.proofs.Common.{ℕ, ◌≤◌, ◌<◌, ◌≡◌, List, ◌++◌, length, take, drop, replicate, Option, Some, None, Result, Ok, Err, OnOk, IfSome, inl, inr, refl, sym, ap, ◌∙◌, subst, arith}
+use Rattle.std.proofs.Common.{ℕ, ◌-◌, ◌≤◌, ◌<◌, ◌≡◌, List, ◌++◌, length, take, drop, replicate, Option, Some, None, Result, Ok, Err, OnOk, IfSome, inl, inr, refl, sym, ap, ◌∙◌, subst, arith, length-drop}
 use Rattle.std.proofs.lemmas.List.{length-take-le, take-replicate}
 use Rattle.std.proofs.lemmas.Bool.{cases_lt}
 use lib.Seq.{take_all}
@@ -26,9 +26,12 @@ module _ (s : List ℕ) where
       unfolding transcript
       too_large large = rw (← is, le-ltb most (length s) fits, le-ltb (length s) 4 whole, lt-ltb most n large) refl
 
-      pub replayed : n ≤ most → with_shelf (all_turns (drop 4 s) (replicate n 0xAA)) ≡ transcript s
+      pub replayed : n ≤ most
+          → with_shelf (all_turns (take (length s - 4) (drop 4 s)) (replicate n 0xAA)) ≡ transcript s
       unfolding transcript
-      replayed small = rw (← is, le-ltb most (length s) fits, le-ltb (length s) 4 whole, le-ltb most n small) refl
+      replayed small =
+          let behind : take (length s - 4) (drop 4 s) ≡ drop 4 s = take_all _ _ (omega (arith, length-drop 4 s)) in
+          rw (behind, ← is, le-ltb most (length s) fits, le-ltb (length s) 4 whole, le-ltb most n small) refl
 
 -- A shelf's first bytes are a shelf too.
 pub new_shelf : (n room : ℕ) (s : List ℕ) → n ≤ room

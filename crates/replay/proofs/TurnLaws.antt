@@ -1,50 +1,53 @@
 -- The turns of a script one by one, and the lines that were written for them.
-use Rattle.std.proofs.Common.{ℕ, ◌+◌, ◌<◌, ◌≡◌, zero, suc, Bool, true, false, cond, eqb, List, ◌++◌, length, take, drop, Option, refl, sym, ap, ◌∙◌, subst, arith, length-drop, append_assoc}
-use Rattle.std.proofs.lemmas.List.{drop-drop}
+use Rattle.std.proofs.Common.{ℕ, ◌<◌, ◌≡◌, zero, suc, Bool, true, false, cond, eqb, List, [], ◌∷◌, ◌++◌, length, take, drop, Option, Some, None, refl, sym, ap, ◌∙◌, subst, inl, inr, arith, length-drop, append_assoc, append-nil}
+use Rattle.std.proofs.lemmas.Bool.{cases_lt}
 use lib.Seq.{take_at}
 use Rattle.std.specs.Io.KnownBytes.{Appends}
 use Rattle.std.proofs.KnownBytes.{Appends-trans}
-use borrow.Author.Tests.{eqb-false, ne_eqb}
-use Rattle.script.specs.Operation.{operation, size}
-use Rattle.script.proofs.Operations.{size-within}
+use borrow.Author.Tests.{eqb-false}
+use Rattle.std.specs.Prelude.{Result, Ok, Err, MatchResult, IsOkAnd}
+use Rattle.script.specs.declared.operation.Operation as read
+use Rattle.script.specs.declared.operation.Stop.{Stop}
+use Rattle.script.specs.Answers.{read_of, item_of}
+use Rattle.script.specs.Operation.{Operation, operation, size}
+use Rattle.script.specs.Sequence.{operations}
+use Rattle.script.proofs.Operations.{size-within, ended_is, operations-end, operations-first}
 use Rattle.transcript.specs.Turn.{Turn, turn}
 use Rattle.replay.specs.Transcript.{then, turns, all_turns}
 
--- Two ends that agree on the shelf that a turn leaves agree behind the turn.
-same_then : (b : Bool) (t : Turn) (f g : List ℕ → Turn) → (b ≡ false → f t.shelf ≡ g t.shelf)
-    → cond b t (then t f) ≡ cond b t (then t g)
-same_then true t f g h = refl
-same_then false t f g h = ap (λ (r : Turn). record { line = t.line ++ r.line; shelf = r.shelf }) (h refl)
+-- The turns of some operations.
+pub turns_of : List Operation → List ℕ → Turn
+turns_of [] shelf = record { line = []; shelf = shelf }
+turns_of (o ∷ os) shelf = then (turn o shelf) (turns_of os)
 
--- Any number of turns above that of the bytes is enough.
-pub enough : (n m : ℕ) (s shelf : List ℕ) → length s < n → length s < m → turns n s shelf ≡ turns m s shelf
-unfolding turns
-enough zero m s shelf p q = absurd (omega arith)
-enough (suc n) zero s shelf p q = absurd (omega arith)
-enough (suc n) (suc m) s shelf p q =
-    let k = size (operation s) in
-    same_then (eqb k 0) (turn (operation s) shelf) (turns n (drop k s)) (turns m (drop k s))
-    (λ some. let taken = eqb-false k 0 some in
-    let fits = size-within s in
-    enough n m (drop k s) (turn (operation s) shelf).shelf (omega (arith, length-drop k s))
-    (omega (arith, length-drop k s)))
+-- A turn that is the last, and one that others follow.
+one_turn : (stops : Bool) (t : Turn) (f : List ℕ → Turn) (os : List Operation)
+    → (stops ≡ false → f t.shelf ≡ turns_of os t.shelf) → cond stops t (then t f) ≡ then t (turns_of (cond stops [] os))
+unfolding turns_of
+one_turn true t f os h = ap (λ (line : List ℕ). record { line = line; shelf = t.shelf }) (sym (append-nil t.line))
+one_turn false t f os h = ap (λ (r : Turn). record { line = t.line ++ r.line; shelf = r.shelf }) (h refl)
 
--- A turn that takes no byte is the last.
-pub last_turn : (s shelf : List ℕ) → size (operation s) ≡ 0 → all_turns s shelf ≡ turn (operation s) shelf
-unfolding all_turns turns
-last_turn s shelf none = rw none refl
+turns-operations : (n : ℕ) (s shelf : List ℕ) → length s < n → turns n s shelf ≡ turns_of (operations s) shelf
+unfolding turns turns_of turn size
+turns-operations zero s shelf h = absurd (omega arith)
+turns-operations (suc n) s shelf h =
+    elim (cases_lt (length s) 1) [
+      | inl none ↦ rw (ended_is s none, operations-end s none) refl
+      | inr some ↦
+          one_turn (eqb (size (operation s)) 0) (turn (operation s) shelf)
+          (turns n (drop (size (operation s)) s)) (operations (drop (size (operation s)) s))
+          (λ e.
+          let taken = eqb-false (size (operation s)) 0 e in
+          let fits = size-within s in
+          turns-operations n (drop (size (operation s)) s) (turn (operation s) shelf).shelf
+          (omega (arith, length-drop (size (operation s)) s)))
+          ∙ rw (operations-first s some) refl
+    ]
 
--- One that takes some is followed by those of the bytes behind it.
-pub first_turn : (s shelf : List ℕ) → 0 < size (operation s)
-    → all_turns s shelf ≡ then (turn (operation s) shelf) (all_turns (drop (size (operation s)) s))
-unfolding all_turns turns
-first_turn s shelf some =
-    let t = turn (operation s) shelf in
-    let k = size (operation s) in
-    let fits = size-within s in
-    let rest =
-    enough (length s) (suc (length (drop k s))) (drop k s) t.shelf (omega (arith, length-drop k s)) (omega arith) in
-    rw (ne_eqb k 0 (λ e. omega arith)) (ap (λ (r : Turn). record { line = t.line ++ r.line; shelf = r.shelf }) rest)
+-- The turns of a script are those of its operations.
+pub turns_all : (s shelf : List ℕ) → all_turns s shelf ≡ turns_of (operations s) shelf
+unfolding all_turns
+turns_all s shelf = turns-operations (suc (length s)) s shelf (omega arith)
 
 -- A text was written, and with the lines of the turns that are left it makes up the lines of all turns.
 pub record Left (before now : Option (List ℕ)) (all left : Turn) : Type 0 where
@@ -53,42 +56,42 @@ pub record Left (before now : Option (List ℕ)) (all left : Turn) : Type 0 wher
   pub line : text ++ left.line ≡ all.line
   pub shelf : left.shelf ≡ all.shelf
 
--- A turn whose line is written, and bytes behind it.
-pub left_behind : (before now after : Option (List ℕ)) {all : Turn} (script : List ℕ) (at size' : ℕ)
-    (shelf shelf' line : List ℕ) → Left before now all (all_turns (drop at script) shelf)
-    → size' ≡ size (operation (drop at script)) → 0 < size' → shelf' ≡ (turn (operation (drop at script)) shelf).shelf
-    → line ≡ (turn (operation (drop at script)) shelf).line → Appends now after line
-    → Left before after all (all_turns (drop (at + size') script) shelf')
-left_behind before now after {all} script at size' shelf shelf' line left is some kept said written =
-    let s = drop at script in
-    let t = turn (operation s) shelf in
-    let place : drop (size (operation s)) s ≡ drop (at + size') script = rw (← is) (drop-drop size' at script) in
-    let first = first_turn s shelf (omega arith) in
-    let rest : all_turns (drop (size (operation s)) s) t.shelf ≡ all_turns (drop (at + size') script) shelf'
-    = rw (place, ← kept) refl in
-    record {
-      text = left.text ++ line;
-      written = Appends-trans before now after left.text line left.written written;
-      line =
-          let behind = append_assoc left.text line (all_turns (drop (at + size') script) shelf').line in
-          let lines = ap (λ (r : Turn). r.line) first in
-          let others = ap (λ (r : Turn). r.line) rest in
-          let all_lines = left.line in
-          cc;
-      shelf = sym (ap (λ (r : Turn). r.shelf) rest) ∙ sym (ap (λ (r : Turn). r.shelf) first) ∙ left.shelf;
-    }
+-- Nothing was written yet.
+pub left_all : (now : Option (List ℕ)) (all : Turn) → Left now now all all
+left_all now all = record { text = []; written = nothing now; line = refl; shelf = refl }
+  where
+    nothing : (now : Option (List ℕ)) → Appends now now []
+    nothing None = tt
+    nothing (Some bytes) = sym (append-nil bytes)
 
--- A turn whose line is written, and which is the last.
-pub left_at_last : (before now after : Option (List ℕ)) {all : Turn} (s shelf line : List ℕ)
-    → Left before now all (all_turns s shelf) → size (operation s) ≡ 0
-    → line ≡ (turn (operation s) shelf).line → Appends now after line → Appends before after all.line
-left_at_last before now after {all} s shelf line left none said written =
-    let last = ap (λ (r : Turn). r.line) (last_turn s shelf none) in
-    let lines = left.line in
-    let whole : left.text ++ line ≡ all.line = cc in
-    subst (Appends before after) whole (Appends-trans before now after left.text line left.written written)
+-- A turn whose line is written.
+pub left_behind : (before now after : Option (List ℕ)) {all : Turn} (o : Operation) (os : List Operation)
+    (shelf shelf' line : List ℕ) → Left before now all (turns_of (o ∷ os) shelf) → shelf' ≡ (turn o shelf).shelf
+    → line ≡ (turn o shelf).line → Appends now after line → Left before after all (turns_of os shelf')
+unfolding turns_of
+left_behind before now after {all} o os shelf shelf' line left kept said written = record {
+  text = left.text ++ line;
+  written = Appends-trans before now after left.text line left.written written;
+  line = rw (kept, said) (append_assoc left.text (turn o shelf).line _ ∙ left.line);
+  shelf = rw kept left.shelf;
+}
+
+-- No turn is left.
+pub left_none : (before now : Option (List ℕ)) {all : Turn} (shelf : List ℕ) → Left before now all (turns_of [] shelf)
+    → (shelf ≡ all.shelf) × Appends before now all.line
+unfolding turns_of
+left_none before now shelf left =
+    (left.shelf, subst (Appends before now) (sym (append-nil left.text) ∙ left.line) left.written)
 
 -- A text that was written to the start of some bytes.
 pub front : (text rest : List ℕ) {after : List ℕ} {n : ℕ} → n ≡ length text → after ≡ text ++ rest
     → take n after ≡ text
 front text rest {after} {n} size is = ap (take n) is ∙ take_at text rest n (sym size)
+
+-- What is read of a script where it does not end.
+pub read_item : (i : Result read.Operation Stop) (r : Result (Option read.Operation) Stop)
+    → MatchResult i (λ x. IsOkAnd r (λ y. y ≡ Some x)) (λ e. r ≡ Err e) → read_of r ≡ item_of i
+unfolding read_of item_of
+read_item (Ok x) (Ok y) is = rw is refl
+read_item (Ok x) (Err e) is = absurd is
+read_item (Err e) r is = rw is refl

@@ -6,7 +6,7 @@ ghost use Rattle.std.specs.Io.KnownBytes.{Appends, Consumes};
 ghost use Rattle.replay.specs.Transcript.{all_turns, with_shelf, transcript};
 
 use input::read_all;
-use script::decode;
+use script::sequence::Operations;
 use std::io;
 use std::io::{Read, Write};
 use transcript::contents;
@@ -22,30 +22,23 @@ const ROOM: usize = MOST + 1;
 // Room for a line that shows all bytes of the largest shelf.
 const WIDE: usize = 160 + 2 * MOST;
 
-// The operations from place 4 on, until the script ends or stops.
+// The operations of a script, until it ends or stops.
 fn operations<W: Write>(
     script: &[u8],
     shelf: &mut [u8],
     out: &mut [u8],
     writer: &mut W,
 ) -> io::Result<()>
-    requires in_bounds { 4 ≤ length script.now }
-    requires has_room { 160 + 2 * length shelf.old ≤ length out.old }
-    ensures shelf_after { OnOk result (shelf.new ≡ (all_turns (drop 4 script.now) shelf.old).shelf) }
+    requires { 160 + 2 * length shelf.old ≤ length out.old }
+    ensures shelf_after { OnOk result (shelf.new ≡ (all_turns script.now shelf.old).shelf) }
     ensures written { OnOk result (Appends (W.contents writer.old) (W.contents writer.new)
-        (all_turns (drop 4 script.now) shelf.old).line) }
+        (all_turns script.now shelf.old).line) }
 {
-    let mut at = 4;
-    loop {
-        let n = turn(script, at, shelf, out);
+    for item in Operations::of(script) {
+        let n = turn(item.map(Some), shelf, out);
         writer.write_all(&out[..n])?;
-        let d = decode(script, at);
-        let size = d.1;
-        if size == 0 {
-            return Ok(());
-        }
-        at += size;
     }
+    Ok(())
 }
 
 // The operations of a script on a shelf, and the shelf's line, with room for a line of N bytes.
@@ -54,11 +47,10 @@ fn replay_in<W: Write, const N: usize>(
     shelf: &mut [u8],
     writer: &mut W,
 ) -> io::Result<()>
-    requires in_bounds { 4 ≤ length script.now }
     requires has_room { 160 + 2 * length shelf.old ≤ N }
     requires fits { N < 2 ^ 63 }
     ensures { OnOk result (Appends (W.contents writer.old) (W.contents writer.new)
-        (with_shelf (all_turns (drop 4 script.now) shelf.old))) }
+        (with_shelf (all_turns script.now shelf.old))) }
 {
     let mut out = [0u8; N];
     operations(script, shelf, &mut out, writer)?;
@@ -68,10 +60,9 @@ fn replay_in<W: Write, const N: usize>(
 
 // The operations of a script on a shelf, and the shelf's line.
 fn replay<W: Write>(script: &[u8], shelf: &mut [u8], writer: &mut W) -> io::Result<()>
-    requires in_bounds { 4 ≤ length script.now }
     requires shelf_len_bound { length shelf.old ≤ 262144 }
     ensures { OnOk result (Appends (W.contents writer.old) (W.contents writer.new)
-        (with_shelf (all_turns (drop 4 script.now) shelf.old))) }
+        (with_shelf (all_turns script.now shelf.old))) }
 {
     replay_in::<W, WIDE>(script, shelf, writer)
 }
@@ -82,12 +73,11 @@ fn replay_on_new<W: Write, const N: usize>(
     capacity: usize,
     writer: &mut W,
 ) -> io::Result<()>
-    requires in_bounds { 4 ≤ length script.now }
     requires shelf_len_bound { capacity ≤ 262144 }
     requires has_room { capacity ≤ N }
     requires fits { N < 2 ^ 63 }
     ensures { OnOk result (Appends (W.contents writer.old) (W.contents writer.new)
-        (with_shelf (all_turns (drop 4 script.now) (replicate capacity 0xAA)))) }
+        (with_shelf (all_turns script.now (replicate capacity 0xAA)))) }
 {
     let mut shelf = [0xAAu8; N];
     replay(script, &mut shelf[..capacity], writer)
@@ -103,11 +93,11 @@ fn run<W: Write>(script: &[u8], writer: &mut W) -> io::Result<()>
     if script.len() < 4 {
         return writer.write_all(b"truncated\n");
     }
-    let capacity = le::u32_at(script, 0);
+    let capacity = le::number::<4>(script, 0) as usize;
     if MOST < capacity {
         return writer.write_all(b"capacity\n");
     }
-    replay_on_new::<W, MOST>(script, capacity, writer)
+    replay_on_new::<W, MOST>(&script[4..], capacity, writer)
 }
 
 // Reads N bytes at most, and replays them.

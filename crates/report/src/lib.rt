@@ -1,16 +1,16 @@
 // The line that is printed for a verdict, and for an input (specs/Line.antt).
 #![tactic(auto)]
 
-ghost use Rattle.std.specs.Prelude.{◌≡◌, ◌++◌, ◌≤◌, length, take, drop};
+ghost use Rattle.std.specs.Prelude.{◌≡◌, ℕ, ◌++◌, ◌≤◌, length, take, drop};
 ghost use Rattle.screening.specs.Answers.{number_of};
 ghost use Rattle.restrictive.specs.Answers.{violation_of, verdict_of};
 ghost use Rattle.restrictive.specs.Verdict.{refused, breaks, verdict};
 ghost use Rattle.report.specs.Line.{line, judged_bytes, line_of};
 
 use restrictive::call::check;
-use restrictive::{Verdict, Violation};
+use restrictive::{Failure, Verdict, Violation};
 use screening::Rejection;
-use text::decimal::labelled;
+use text::line::Line;
 use words::copy::lay;
 
 // How long a line can be: five numbers have 20 digits each at most, and the words around them 30 bytes.
@@ -23,8 +23,29 @@ fn refusal(r: Rejection, out: &mut [u8; LINE]) -> usize
     ensures value { result ≡ length (line (refused (number_of r))) }
     ensures out_after { out.new ≡ line (refused (number_of r)) ++ drop result out.old }
 {
-    let at = labelled(b"refused ", r.number() as usize, out, 0);
-    lay(b"\n", out, at)
+    let mut line = Line::over(out);
+    line.labelled(b"refused ", r.number() as usize);
+    line.word(b"\n");
+    line.at
+}
+
+// Writes the line of a break with these numbers to the start of out, and answers its length. The rest of out stays. The
+// line does not tell a level.
+pub fn break_line(rule: usize, event: usize, s: usize, t: usize, u: usize, out: &mut [u8]) -> usize
+    requires { 130 ≤ length out.old }
+    ensures value { (l : ℕ) → result
+        ≡ length (line (breaks (record { level = l; rule = rule; event = event; s = s; t = t; u = u }))) }
+    ensures out_after { (l : ℕ) → out.new
+        ≡ line (breaks (record { level = l; rule = rule; event = event; s = s; t = t; u = u })) ++ drop result out.old }
+{
+    let mut line = Line::over(out);
+    line.labelled(b"rule ", rule);
+    line.labelled(b" event ", event);
+    line.labelled(b" from ", s);
+    line.labelled(b" to ", t);
+    line.labelled(b" other ", u);
+    line.word(b"\n");
+    line.at
 }
 
 // Writes the line of a break to the start of out, and answers its length. The rest of out stays.
@@ -33,12 +54,7 @@ pub fn violation(v: Violation, out: &mut [u8]) -> usize
     ensures value { result ≡ length (line (breaks (violation_of v))) }
     ensures out_after { out.new ≡ line (breaks (violation_of v)) ++ drop result out.old }
 {
-    let event = labelled(b"rule ", v.rule, out, 0);
-    let from = labelled(b" event ", v.event, out, event);
-    let to = labelled(b" from ", v.s, out, from);
-    let other = labelled(b" to ", v.t, out, to);
-    let end = labelled(b" other ", v.u, out, other);
-    lay(b"\n", out, end)
+    break_line(v.rule.number(), v.event, v.s, v.t, v.u, out)
 }
 
 // Writes the verdict's line to the start of out, and answers its length. The rest of out stays.
@@ -47,9 +63,9 @@ pub fn line(v: Verdict, out: &mut [u8; LINE]) -> usize
     ensures out_after { out.new ≡ line (verdict_of v) ++ drop result out.old }
 {
     match v {
-        Verdict::Pass => lay(b"pass\n", out, 0),
-        Verdict::Refused(r) => refusal(r, out),
-        Verdict::Break(b) => violation(b, out),
+        Ok(_) => lay(b"pass\n", out, 0),
+        Err(Failure::Refused(r)) => refusal(r, out),
+        Err(Failure::Breaks(found)) => violation(found.violation, out),
     }
 }
 
@@ -57,12 +73,7 @@ pub fn line(v: Verdict, out: &mut [u8; LINE]) -> usize
 fn judge(input: &[u8]) -> Verdict
     ensures { verdict_of result ≡ verdict (take judged_bytes input.now) }
 {
-    if JUDGED < input.len() {
-        let report = check(&input[..JUDGED]);
-        return report.verdict;
-    }
-    let report = check(input);
-    report.verdict
+    check(&input[..JUDGED.min(input.len())])
 }
 
 // Writes the line of an input to the start of out, and answers its length. The rest of out stays.

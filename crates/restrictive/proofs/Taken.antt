@@ -14,12 +14,12 @@ use Rattle.bounded.proofs.Search.{first_found, first-none, when_some}
 use Rattle.part.specs.Record.{Observer}
 use Rattle.relations.specs.Relations.{closure_sizes}
 use Rattle.restrictive.specs.declared.answer.Violation as code
-use Rattle.restrictive.specs.declared.answer.Found.{Found}
-use Rattle.restrictive.specs.declared.answer.Found.TheVariants.{At, Nothing}
+use Rattle.restrictive.specs.declared.answer.Break.{Break}
+use Rattle.std.specs.Prelude.{Result, Ok, Err}
 use Rattle.restrictive.specs.Verdict.{Violation, violation_at, state_violation, event_violation, rule_violation}
 use Rattle.restrictive.specs.Verdict.{breaks, violation_for, taken_by}
 use Rattle.restrictive.specs.Answers.{violation_of}
-use Rattle.restrictive.specs.Found.{found_of, taken_at, FindingFor}
+use Rattle.restrictive.specs.Found.{found_of, finding_of, taken_up, taken_at, FindingFor}
 use Rattle.restrictive.proofs.Scans.{found_first}
 
 -- A break of rule 4 or 5, and of another rule.
@@ -70,26 +70,26 @@ module _ (b : List ℕ) (o : Observer) where
           clash : {w : Violation} → none ≡ some w → ⊥
           clash e = let z : ◌≡◌ {A = ℕ} 0 1 = cc in omega arith
 
-  pub finds_late : {f : Found} {k : ℕ} → first 3 (rule_violation b o) ≡ none → found_of f ≡ violation_for b o
-      → k ≡ closure_sizes b o.level → FindingFor b o (record { found = f; taken = k })
-  finds_late before e size = record { found = e; taken = size ∙ sym (taken_late before) }
+  pub finds_late : (f : Result (Unit {0}) code.Violation) (r : Result ℕ Break) (k : ℕ) → first 3 (rule_violation b o) ≡ none
+      → found_of f ≡ violation_for b o → finding_of r ≡ found_of f → taken_up r ≡ k
+      → k ≡ closure_sizes b o.level → FindingFor b o r
+  finds_late f r k before e same size total = record { found = same ∙ e; taken = size ∙ total ∙ sym (taken_late before) }
 
   -- A violation of one of these rules ends the search before.
-  pub finds_early : (k : ℕ) {f : Found} {v : code.Violation} → k < 3 → found_of f ≡ rule_violation b o k
-      → first k (rule_violation b o) ≡ none → f ≡ At v → FindingFor b o (record { found = f; taken = 0 })
-  unfolding violation_for found_of taken_at
-  finds_early k {f} {v} h seen before e =
-      let whole = found_first (rule_violation b o) k f seen before 5 v e (omega arith) in
-      let rule = (rule_of k (violation_of v) (sym seen ∙ ap found_of e)).0 in
+  pub finds_early : (k : ℕ) {v : code.Violation} → k < 3 → found_of (Err v) ≡ rule_violation b o k
+      → first k (rule_violation b o) ≡ none → FindingFor b o (Err (record { violation = v; taken = 0 }))
+  unfolding violation_for found_of finding_of taken_up taken_at
+  finds_early k {v} h seen before =
+      let whole = found_first (rule_violation b o) k (Err v) seen before 5 v refl (omega arith) in
+      let rule = (rule_of k (violation_of v) (sym seen)).0 in
       record {
         found = whole;
         taken =
-            sym (ap (taken_at b o.level) (sym whole ∙ ap found_of e)
+            sym (ap (taken_at b o.level) (sym whole)
             ∙ taken_none b (violation_of v) (⊎_elim (λ q. omega arith) (λ q. omega arith)));
       }
 
   -- Nothing is found.
-  pub finds_none : {k : ℕ} → violation_for b o ≡ none → k ≡ closure_sizes b o.level
-      → FindingFor b o (record { found = Nothing; taken = k })
-  unfolding found_of taken_at
+  pub finds_none : {k : ℕ} → violation_for b o ≡ none → k ≡ closure_sizes b o.level → FindingFor b o (Ok k)
+  unfolding finding_of taken_up taken_at
   finds_none e size = record { found = sym e; taken = size ∙ ap (taken_at b o.level) (sym e) }

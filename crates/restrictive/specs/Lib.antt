@@ -4,6 +4,7 @@ pub mod Earlier
 pub mod Sets
 pub mod Answers
 pub mod Found
+pub mod Searched
 pub mod Theorems
 pub mod Judged
 pub mod Examples

@@ -8,7 +8,7 @@ use Rattle.part.specs.Record.{states, events, row, Observer, observing}
 use Rattle.machine.specs.Rules.{Rule, rule_1, rule_2, rule_3, rule_4, rule_5}
 use Rattle.partition.specs.Classes.{same_class}
 use Rattle.relations.specs.Relations.{rule_at, role_at, concerns, leads, reach_for}
-use Rattle.relations.specs.Sets.{Sound, LookedUp}
+use Rattle.relations.specs.Sets.{place_of, LookedUp}
 use Rattle.restrictive.specs.declared.answer.Case.{Case}
 use Rattle.restrictive.specs.Tests.{around}
 
@@ -54,25 +54,19 @@ abbrev pub Permitted : List ℕ → Observer → ℕ → ℕ → List ℕ → Ty
 Permitted b o k i words =
     (s : ℕ) → s < states b → (t : ℕ) → t < states b → bit (get_or words s 0) t ≡ permits b o (rule_at k) i s (o.class t)
 
--- The observer of a case, with the classes of a column and the fine ones of another.
-abbrev pub observer_in : List ℕ → List ℕ → Case → Observer
-observer_in column fine c = observing c.observer column fine
-
 -- For rule 3, which takes u among the classes, these stand for the fine ones.
 abbrev pub Beside : ℕ → List ℕ → List ℕ → Type 0
 Beside k column fine = k ≡ 2 → fine ≡ column
 
 -- A case of one of the rules 2 to 5 that speaks of the event, with the states that the event may lead to and, after rule 2, the classes that
 -- the states offer.
-pub record Judgeable (b column fine : List ℕ) (c : Case) (permitted offers : List ℕ) : Type 0 where
-  pub sound : Sound b column fine
-  pub taken : Beside c.rule column fine
+pub record Judgeable (b column fine : List ℕ) (l : ℕ) (c : Case) (permitted offers : List ℕ) : Type 0 where
+  pub taken : Beside (place_of c.rule) column fine
   pub placed : c.event < events b
-  pub later : 1 ≤ c.rule
-  pub last : c.rule < 5
-  pub speaks : concerns (rule_at c.rule) (role_at b c.observer c.event) ≡ true
-  pub permitting : Permitted b (observer_in column fine c) c.rule c.event permitted
-  pub offering : 2 ≤ c.rule → Offers b c.observer (byte column) c.rule c.event offers
+  pub later : 1 ≤ place_of c.rule
+  pub speaks : concerns (rule_at (place_of c.rule)) (role_at b l c.event) ≡ true
+  pub permitting : Permitted b (observing l column fine) (place_of c.rule) c.event permitted
+  pub offering : 2 ≤ place_of c.rule → Offers b l (byte column) (place_of c.rule) c.event offers
 
 -- Rule k + 1 speaks of the event at place i, which leads from s to t.
 abbrev pub Asked : List ℕ → ℕ → ℕ → ℕ → ℕ → ℕ → Type 0

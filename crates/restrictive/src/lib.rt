@@ -5,5 +5,6 @@ pub mod answer;
 pub mod call;
 mod naming;
 mod rules;
+mod search;
 
-pub use answer::{Report, Verdict, Violation};
+pub use answer::{Break, Failure, Pass, Verdict, Violation};

@@ -8,3 +8,4 @@ pub mod LayoutLaws
 pub mod ReadBack
 pub mod Extensional
 pub mod Proper
+pub mod Tests

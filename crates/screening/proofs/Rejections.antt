@@ -1,13 +1,13 @@
 -- What each condition that does not hold tells of the record, and the tests of condition 4.
 use Prim.Native.Nat.{ℕ, zero, suc, ◌-◌, ◌≤◌, ◌<◌}
 use mathlib.Core.Path.{◌≡◌, refl, sym, ap, ◌∙◌}
-use mathlib.Core.Bool.{true, false, not, ◌||◌}
+use mathlib.Core.Bool.{true, false, ◌||◌}
 use mathlib.Core.Logic.{◌⊎◌, inl, inr, ⊎_elim}
 use mathlib.Core.List.{List}
 use native.Mathlib.Decide.{ℕ_discrete}
 use native.Mathlib.Omega.{arith}
 use lib.ListN.{length}
-use lib.Dec.{ltb, leb, eqb}
+use lib.Dec.{ltb, leb}
 use borrow.Author.Tests.{ltb-false, leb-false, eqb-true, eq-eqb, ne_eqb, not-false, lt-ltb, le-ltb, lt-leb}
 use Rattle.bounded.specs.Search.{any}
 use Rattle.bounded.proofs.Search.{or_left, or_right, or-then, is_true, any_none}
@@ -109,10 +109,6 @@ module _ (b : List ℕ) where
   kind_known (inl e) = rw e refl
   kind_known (inr (inl e)) = rw e refl
   kind_known (inr (inr e)) = rw e refl
-
-  pub kind-other : (kind b ≡ single_kind → ⊥) → (kind b ≡ several_kind → ⊥) → wrong_kind b ≡ not (eqb (kind b) limited_kind)
-  unfolding wrong_kind
-  kind-other n m = rw (ne_eqb (kind b) single_kind n, ne_eqb (kind b) several_kind m)
 
   pub no-fine : (kind b ≡ limited_kind → ⊥) → misrefined b ≡ false
   unfolding misrefined
@@ -216,6 +212,9 @@ module _ (b : List ℕ) where
         };
         narrow = form.narrow;
       }
+
+-- What the size of a record is read under.
+pub ruleset sized = (long, header_read, ranged)
 
 module _ (b : List ℕ) (a : NoneOf frame_conditions b) where
   list_in_order : (e : kind b ≡ several_kind) → Listed b e

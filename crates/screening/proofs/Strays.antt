@@ -36,6 +36,8 @@ module _ (b : List ℕ) (i : ℕ) where
   unfolding row_strays
   united_done n s found p q e = cc
 
+pub ruleset uniting = (united_none, united_next, united_done)
+
 -- ---- the most states: a row has 8 bytes, so no bit at 64 or above
 
 row_fits : (b : List ℕ) (i s : ℕ) → Bytes b → row b i s < 2 ^ 64

@@ -1,10 +1,8 @@
 -- The numbers of the documents for the answers of the code.
-use Rattle.std.specs.Prelude.{ℕ}
+use Rattle.std.specs.Prelude.{ℕ, Result, Ok, Err}
 use Rattle.std.proofs.Math.Option.{Option, none, some}
 use Rattle.screening.specs.declared.answer.Rejection.{Rejection}
 use Rattle.screening.specs.declared.answer.Rejection.TheVariants.{TooShort, WrongLength, WrongKind, OutOfRange, WrongSize, Mislisted, Misnumbered, Misrefined, Misordered, Mislabelled, StrayBit}
-use Rattle.screening.specs.declared.answer.Screening.{Screening}
-use Rattle.screening.specs.declared.answer.Screening.TheVariants.{Accepted, Rejected}
 
 -- The number of a rejection (document 01, "Refusals out of the input"; document 02, d, k and l).
 abbrev pub number_of : Rejection → ℕ
@@ -21,6 +19,6 @@ number_of Mislabelled = 16
 number_of StrayBit = 8
 
 -- What screening a record says: no rejection, or one by its number.
-unfoldable pub rejection_of : Screening → Option ℕ
-rejection_of Accepted = none
-rejection_of (Rejected r) = some (number_of r)
+unfoldable pub rejection_of : {A : Type 0} → Result A Rejection → Option ℕ
+rejection_of (Ok a) = none
+rejection_of (Err r) = some (number_of r)

@@ -3,6 +3,5 @@ pub mod Answers
 pub mod MachineFacts
 pub mod Machine
 pub mod Theorems
-pub mod Faults
 pub mod Computed
 pub mod Examples

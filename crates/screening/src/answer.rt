@@ -1,7 +1,7 @@
 // The answers about a record. specs/Answers.antt gives each its number.
 
 // Why a record is rejected.
-#[derive(Clone, Copy)]
+#[derive(Clone, Copy, PartialEq, Eq)]
 pub enum Rejection {
     TooShort,
     WrongLength,
@@ -14,11 +14,4 @@ pub enum Rejection {
     Misordered,
     Mislabelled,
     StrayBit,
-}
-
-// What screening a record finds.
-#[derive(Clone, Copy)]
-pub enum Screening {
-    Accepted,
-    Rejected(Rejection),
 }

@@ -3,6 +3,8 @@
 
 pub mod answer;
 mod rejection;
+mod screened;
 
-pub use answer::{Rejection, Screening};
+pub use answer::Rejection;
 pub use rejection::screen;
+pub use screened::Screened;

@@ -1,28 +1,18 @@
 // The rejections of a record, in order (specs/Rejections.antt): one function for each condition, and two cascades.
-ghost use Rattle.std.specs.Prelude.{◌≡◌, ◌<◌, false};
+ghost use Rattle.std.specs.Prelude.{◌≡◌, ◌<◌, false, IfOk};
 ghost use Rattle.part.specs.Record.{observers, observer, events, identifier};
-ghost use Rattle.bounded.specs.Search.{any};
-ghost use Rattle.part.specs.Frame.{Framed};
-ghost use Rattle.screening.specs.Faults.{candidates, has_fault};
-ghost use Rattle.screening.specs.Rejections.{too_short, wrong_length, wrong_kind, out_of_range, wrong_size, falls, mislisted, unnumbered, misnumbered, misrefined, misordered_at, mislabelled_part, row_strays, stray_bit, frame_conditions, content_conditions, first_of, rejection};
+ghost use Rattle.screening.specs.Rejections.{too_short, wrong_length, wrong_kind, out_of_range, wrong_size};
+ghost use Rattle.screening.specs.Rejections.{falls, mislisted, unnumbered, misnumbered, misrefined, misordered_at, misordered};
+ghost use Rattle.screening.specs.Rejections.{mislabelled_part, row_strays, stray_bit};
+ghost use Rattle.screening.specs.Rejections.{frame_conditions, content_conditions, first_of, rejection};
 ghost use Rattle.screening.specs.Answers.{number_of, rejection_of};
 
-use crate::answer::{Rejection, Screening};
+use crate::answer::Rejection;
+use crate::screened::Screened;
 use level::Level;
-use part::{Counts, Part, classes_with};
-use partition::classes::crosses;
-use words::{le, set};
-
-// What 20, 6 and 16 ask of one observer, and 7, 16 and 8 of one event.
-#[derive(Clone, Copy)]
-enum Fault {
-    FallingObserver,
-    Misnumbered,
-    MislabelledObserver,
-    Misordered,
-    Mislabelled,
-    StrayBit,
-}
+use part::{EventKind, Kind, Part, Record, classes_with};
+use partition::Columns;
+use words::set;
 
 impl Rejection {
     // The number that the documents give it.
@@ -46,12 +36,16 @@ impl Rejection {
     }
 }
 
+// Each test of a record's frame asks that those before it failed, in the order in which `screen_frame` runs them: a type for
+// what each leaves would be made once and taken once.
+#[tactic(auto, unfolding(crate::specs::Rejections::too_short))]
 fn too_short(b: &[u8]) -> bool
     ensures { result ≡ too_short b.now }
 {
     b.len() < Part::HEADER
 }
 
+#[tactic(auto, using(crate::proofs::Rejections::long), unfolding(crate::specs::Rejections::wrong_length))]
 fn wrong_length(b: &[u8]) -> bool
     requires { too_short b.now ≡ false }
     ensures { result ≡ wrong_length b.now }
@@ -63,16 +57,10 @@ fn wrong_kind(b: &[u8]) -> bool
     requires { too_short b.now ≡ false }
     ensures { result ≡ wrong_kind b.now }
 {
-    let kind = Part::kind(b);
-    if kind == Part::SINGLE {
-        return false;
-    }
-    if kind == Part::SEVERAL {
-        return false;
-    }
-    kind != Part::LIMITED
+    Kind::try_from(Part::kind(b)).is_err()
 }
 
+// The counts are read only where there are bytes for them.
 fn out_of_range(b: &[u8]) -> bool
     requires long_enough { too_short b.now ≡ false }
     requires length_right { wrong_length b.now ≡ false }
@@ -82,43 +70,25 @@ fn out_of_range(b: &[u8]) -> bool
         return true;
     }
     let n = Part::states(b);
-    if n < 1 {
-        return true;
-    }
-    if Part::STATES < n {
-        return true;
-    }
-    if n <= Part::start(b) {
-        return true;
-    }
-    Part::EVENTS < Part::events(b)
+    n < 1 || Part::STATES < n || n <= Part::start(b) || Part::EVENTS < Part::events(b)
 }
 
+#[tactic(auto, using(crate::proofs::Rejections::sized), unfolding(crate::specs::Rejections::wrong_size))]
 fn wrong_size(b: &[u8]) -> bool
     requires long_enough { too_short b.now ≡ false }
     requires length_right { wrong_length b.now ≡ false }
     requires in_range { out_of_range b.now ≡ false }
     ensures { result ≡ wrong_size b.now }
 {
-    let form = Part::form(b);
-    let counts = Counts {
-        form,
-        states: Part::states(b),
-        events: Part::events(b),
-    };
-    Part::body_length(b) != counts.body_size()
+    Part::body_length(b) != Part::counts(b).body_size()
 }
 
 // The level of observer o is not above the one before it.
-fn observer_falls(b: &[u8], o: usize) -> bool
-    requires framed { Framed b.now }
-    requires o_bound { o < observers b.now }
-    ensures { result ≡ falls (observer b.now) o }
+fn observer_falls(b: Record, o: usize) -> bool
+    requires { o < observers b.bytes.now }
+    ensures { result ≡ falls (observer b.entry.bytes.now) o }
 {
-    if o == 0 {
-        return false;
-    }
-    Part::observer(b, o) <= Part::observer(b, o - 1)
+    o > 0 && b.observer(o) <= b.observer(o - 1)
 }
 
 // The classes of a column are not numbered by first appearance.
@@ -126,204 +96,157 @@ fn unnumbered(column: &[u8]) -> bool
     ensures { result ≡ unnumbered column.now }
 {
     let mut count = 0;
-    let mut s = 0;
-    while s < column.len() {
-        let c = le::u8_at(column, s);
+    for &c in column {
+        let c = usize::from(c);
         if count < c {
             return true;
         }
         count = classes_with(count, c);
-        s += 1;
     }
     false
 }
 
 // The identifier at place i is not above the one before it.
-fn identifier_falls(b: &[u8], i: usize) -> bool
-    requires framed { Framed b.now }
-    requires i_bound { i < events b.now }
-    ensures { result ≡ falls (identifier b.now) i }
+fn identifier_falls(b: Record, i: usize) -> bool
+    requires { i < events b.bytes.now }
+    ensures { result ≡ falls (identifier b.entry.bytes.now) i }
 {
-    if i == 0 {
-        return false;
-    }
-    Part::identifier(b, i) <= Part::identifier(b, i - 1)
+    i > 0 && b.identifier(i) <= b.identifier(i - 1)
 }
 
-// The event at place i is not behind the one before it, or its kind is unknown.
-fn misordered_at(b: &[u8], i: usize) -> bool
-    requires framed { Framed b.now }
-    requires i_bound { i < events b.now }
-    ensures { result ≡ misordered_at b.now i }
+// The event at place i is not behind the one before it, or its kind is unknown. The byte is compared, since reading it as a
+// kind never fails.
+fn misordered_at(b: Record, i: usize) -> bool
+    requires { i < events b.bytes.now }
+    ensures { result ≡ misordered_at b.entry.bytes.now i }
 {
-    if identifier_falls(b, i) {
-        return true;
-    }
-    Part::EVENT_KIND < Part::event_kind(b, i)
+    identifier_falls(b, i) || b.kind_byte(i) > EventKind::Internal as u8
 }
 
 // Some row of the event has a bit at n or above: the union of its rows has one.
-fn row_strays(b: &[u8], i: usize) -> bool
-    requires framed { Framed b.now }
-    requires i_bound { i < events b.now }
-    ensures { result ≡ row_strays b.now i }
+#[tactic(auto, using(crate::proofs::Strays::uniting))]
+fn row_strays(b: Record, i: usize) -> bool
+    requires { i < events b.bytes.now }
+    ensures { result ≡ row_strays b.entry.bytes.now i }
 {
-    let n = Part::states(b);
     let mut found = 0;
-    let mut s = 0;
-    while s < n {
-        found = set::union(found, Part::row(b, i, s));
-        s += 1;
+    for s in 0..b.states() {
+        found = set::union(found, b.row(i, s));
     }
-    set::exceeds(n, found)
+    set::exceeds(b.states(), found)
 }
 
-// Observer i, or the event at place i, has the fault.
-fn has_fault(b: &[u8], i: usize, fault: Fault) -> bool
-    requires framed { Framed b.now }
-    requires i_bound { i < candidates fault b.now }
-    ensures { result ≡ has_fault fault b.now i }
-{
-    match fault {
-        Fault::FallingObserver => observer_falls(b, i),
-        Fault::Misnumbered => unnumbered(Part::column(b, i)),
-        Fault::MislabelledObserver => Level::is_mislabelled(Part::observer(b, i)),
-        Fault::Misordered => misordered_at(b, i),
-        Fault::Mislabelled => Level::is_mislabelled(Part::level(b, i)),
-        Fault::StrayBit => row_strays(b, i),
-    }
-}
-
-// Some observer, or some event, has the fault; there are so many.
-fn some_fault(b: &[u8], count: usize, fault: Fault) -> bool
-    requires framed { Framed b.now }
-    requires count_value { count ≡ candidates fault b.now }
-    ensures { result ≡ any (candidates fault b.now) (has_fault fault b.now) }
-{
-    let mut i = 0;
-    while i < count {
-        if has_fault(b, i, fault) {
-            return true;
-        }
-        i += 1;
-    }
-    false
-}
-
+// A record is read of the bytes only where the tests above passed, so the list is compared behind two returns.
 fn mislisted(b: &[u8]) -> bool
     requires long_enough { too_short b.now ≡ false }
     requires length_right { wrong_length b.now ≡ false }
     requires in_range { out_of_range b.now ≡ false }
-    requires b_value_4 { wrong_size b.now ≡ false }
+    requires size_right { wrong_size b.now ≡ false }
     ensures { result ≡ mislisted b.now }
 {
-    if Part::kind(b) != Part::SEVERAL {
+    if Kind::try_from(Part::kind(b)).ok() != Some(Kind::Several) {
         return false;
     }
-    let form = Part::form(b);
-    let count = form.observers;
-    if count < Part::LEAST_LISTED {
+    let count = Part::form(b).observers;
+    if count < Part::LEAST_LISTED || Part::OBSERVERS < count {
         return true;
     }
-    if Part::OBSERVERS < count {
-        return true;
-    }
-    some_fault(b, count, Fault::FallingObserver)
+    let b = Record::of(b);
+    (0..count).any(|o| observer_falls(b, o))
+}
+
+fn misnumbered(b: Record) -> bool
+    ensures { result ≡ misnumbered b.entry.bytes.now }
+{
+    (0..b.observers()).any(|o| unnumbered(b.class_column(o)))
 }
 
 // A fine column that is numbered by first appearance, and lies inside the classes, is asked of a limited part alone.
-fn misrefined(b: &[u8]) -> bool
-    requires framed { Framed b.now }
-    requires numbered { misnumbered b.now ≡ false }
-    ensures { result ≡ misrefined b.now }
+fn misrefined(b: Record) -> bool
+    requires { misnumbered b.bytes.now ≡ false }
+    ensures { result ≡ misrefined b.entry.bytes.now }
 {
-    if Part::kind(b) != Part::LIMITED {
+    if b.kind() != Some(Kind::Limited) {
         return false;
     }
-    let fine = Part::fine_column(b, 0);
-    if unnumbered(fine) {
-        return true;
-    }
-    crosses(Part::column(b, 0), fine)
+    let fine = b.fine_column(0);
+    unnumbered(fine) || Columns::of(b.class_column(0), fine).crosses()
 }
 
-fn mislabelled(b: &[u8]) -> bool
-    requires { Framed b.now }
-    ensures { result ≡ mislabelled_part b.now }
+fn misordered(b: Record) -> bool
+    ensures { result ≡ misordered b.entry.bytes.now }
 {
-    if some_fault(b, Part::observers(b), Fault::MislabelledObserver) {
-        return true;
-    }
-    some_fault(b, Part::events(b), Fault::Mislabelled)
+    (0..b.events()).any(|i| misordered_at(b, i))
+}
+
+fn mislabelled(b: Record) -> bool
+    ensures { result ≡ mislabelled_part b.entry.bytes.now }
+{
+    (0..b.observers()).any(|o| Level::is_mislabelled(b.observer(o)))
+        || (0..b.events()).any(|i| Level::is_mislabelled(b.level(i)))
 }
 
 // A row has no bit above 63.
-fn stray_bit(b: &[u8]) -> bool
-    requires { Framed b.now }
-    ensures { result ≡ stray_bit b.now }
+fn stray_bit(b: Record) -> bool
+    ensures { result ≡ stray_bit b.entry.bytes.now }
 {
-    if Part::states(b) == Part::STATES {
-        return false;
-    }
-    some_fault(b, Part::events(b), Fault::StrayBit)
+    b.states() < Part::STATES && (0..b.events()).any(|i| row_strays(b, i))
 }
 
 // The rejections 1 to 5 and 20: header, counts, size and the list of observers.
-fn screen_frame(b: &[u8]) -> Screening
-    ensures { rejection_of result ≡ first_of frame_conditions b.now }
+fn screen_frame(b: &[u8]) -> Result<Record<'_>, Rejection>
+    ensures rejection { rejection_of result ≡ first_of frame_conditions b.now }
+    ensures bytes { IfOk result (λ r. r.bytes.now ≡ b.now) }
 {
     if too_short(b) {
-        return Screening::Rejected(Rejection::TooShort);
+        return Err(Rejection::TooShort);
     }
     if wrong_length(b) {
-        return Screening::Rejected(Rejection::WrongLength);
+        return Err(Rejection::WrongLength);
     }
     if wrong_kind(b) {
-        return Screening::Rejected(Rejection::WrongKind);
+        return Err(Rejection::WrongKind);
     }
     if out_of_range(b) {
-        return Screening::Rejected(Rejection::OutOfRange);
+        return Err(Rejection::OutOfRange);
     }
     if wrong_size(b) {
-        return Screening::Rejected(Rejection::WrongSize);
+        return Err(Rejection::WrongSize);
     }
     if mislisted(b) {
-        return Screening::Rejected(Rejection::Mislisted);
+        return Err(Rejection::Mislisted);
     }
-    Screening::Accepted
+    Ok(Record::of(b))
 }
 
 // The rejections behind these: classes, entries, levels and rows.
-fn screen_content(b: &[u8]) -> Screening
-    requires { Framed b.now }
-    ensures { rejection_of result ≡ first_of content_conditions b.now }
+fn screen_content(b: Record) -> Result<(), Rejection>
+    ensures { rejection_of result ≡ first_of content_conditions b.entry.bytes.now }
 {
-    if some_fault(b, Part::observers(b), Fault::Misnumbered) {
-        return Screening::Rejected(Rejection::Misnumbered);
+    if misnumbered(b) {
+        return Err(Rejection::Misnumbered);
     }
     if misrefined(b) {
-        return Screening::Rejected(Rejection::Misrefined);
+        return Err(Rejection::Misrefined);
     }
-    if some_fault(b, Part::events(b), Fault::Misordered) {
-        return Screening::Rejected(Rejection::Misordered);
+    if misordered(b) {
+        return Err(Rejection::Misordered);
     }
     if mislabelled(b) {
-        return Screening::Rejected(Rejection::Mislabelled);
+        return Err(Rejection::Mislabelled);
     }
     if stray_bit(b) {
-        return Screening::Rejected(Rejection::StrayBit);
+        return Err(Rejection::StrayBit);
     }
-    Screening::Accepted
+    Ok(())
 }
 
-// The first rejection that applies to the bytes, or none.
-pub fn screen(b: &[u8]) -> Screening
-    ensures { rejection_of result ≡ rejection b.now }
+// The record that the bytes are, or the first rejection that applies to them.
+pub fn screen(bytes: &[u8]) -> Result<Screened<'_>, Rejection>
+    ensures rejection { rejection_of result ≡ rejection bytes.now }
+    ensures bytes { IfOk result (λ s. s.record.bytes.now ≡ bytes.now) }
 {
-    let screened = screen_frame(b);
-    match screened {
-        Screening::Rejected(_) => return screened,
-        Screening::Accepted => {}
-    }
-    screen_content(b)
+    let record = screen_frame(bytes)?;
+    screen_content(record)?;
+    Ok(Screened::of(record))
 }

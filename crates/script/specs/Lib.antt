@@ -1,3 +1,4 @@
 pub mod Operation
+pub mod Sequence
 pub mod Answers
 pub mod Examples

@@ -1,27 +1,44 @@
 // What stands in a replay script. specs/Answers.antt gives each its meaning.
+ghost use Rattle.std.specs.Prelude.{◌≡◌};
+ghost use Rattle.script.specs.Operation.{size};
 
-// A call that changes the shelf.
+// A call that changes the shelf. Load has its record.
 #[derive(Clone, Copy)]
-pub enum Call {
+pub enum Call<'a> {
     Clear,
-    // Where the record starts in the script, and where it ends.
-    Load(usize, usize),
+    Load(&'a [u8]),
     Hookup(usize, usize),
 }
 
-// What stands at a place of a script.
 #[derive(Clone, Copy)]
-pub enum Operation {
-    Call(Call),
+pub enum Operation<'a> {
+    Call(Call<'a>),
     Count,
     Part(usize),
-    // No byte is left.
-    Ended,
+}
+
+// Why no operation can be read.
+#[derive(Clone, Copy, PartialEq, Eq, Debug)]
+pub enum Stop {
     // The end of the script cuts the operation off.
     Truncated,
     Unknown,
 }
 
-// An operation, and how many of the script's bytes it takes: none, where the script ends or stops there.
-#[derive(Clone, Copy)]
-pub struct Decoded(pub Operation, pub usize);
+impl<'a> Operation<'a> {
+    ghost use Rattle.script.specs.Answers.{operation_of};
+
+    // How many bytes of a script it takes.
+    #[tactic(auto, unfolding(crate::specs::Operation::size, crate::specs::Answers::operation_of, crate::specs::Answers::operation_of_call))]
+    pub fn size(self) -> usize
+        ensures { result ≡ size (operation_of self.entry) }
+    {
+        match self {
+            Operation::Call(Call::Clear) => 1,
+            Operation::Call(Call::Load(record)) => 5 + record.len(),
+            Operation::Call(Call::Hookup(_, _)) => 9,
+            Operation::Count => 1,
+            Operation::Part(_) => 5,
+        }
+    }
+}

@@ -1,4 +1,4 @@
--- What Clear and Load leave, case by case, and the bytes that are laid.
+-- What Clear and Load leave, case by case.
 use Prim.Native.Nat.{ℕ, ◌+◌, ◌≤◌, ◌<◌}
 use mathlib.Core.Path.{◌≡◌}
 use mathlib.Core.List.{List, ◌++◌, flatten}
@@ -6,22 +6,18 @@ use mathlib.Core.Option.{none, some}
 use native.Mathlib.Omega.{arith}
 use lib.ListN.{length}
 use borrow.Author.Tests.{lt-ltb, le-ltb}
-use Rattle.words.specs.LittleEndian.{digits}
 use Rattle.words.specs.Laid.{over, Laid}
-use Rattle.words.proofs.LaidLaws.{over-append, over-digits}
+use Rattle.words.proofs.LaidLaws.{over-append}
 use Rattle.restrictive.specs.Verdict as check
 use Rattle.restrictive.specs.Verdict.{Violation, pass, verdict}
+use Rattle.restrictive.specs.declared.answer.Failure.{Failure}
+use Rattle.restrictive.specs.declared.answer.Failure.TheVariants.{Refused, Breaks}
+use Rattle.restrictive.specs.Answers.{failure_of}
+use Rattle.store.specs.Answers.{failure_answer}
 use Rattle.store.specs.Answer.{gives, refused, breaks}
 use Rattle.store.specs.Walk.{walk, records}
 use Rattle.store.specs.Found.{Ends}
 use Rattle.store.specs.Calls.{end_bytes, unchanged, clear, append, load}
-
--- ---- the bytes
-
--- A length of 0 and a kind of 0 are an end record.
-pub end_laid : (s : List ℕ) (at : ℕ) → over (over s at (digits 4 0)) (at + 4) (digits 2 0) ≡ over s at end_bytes
-unfolding digits end_bytes
-end_laid s at = over-digits s at 4 2 0
 
 -- ---- Clear
 
@@ -71,6 +67,11 @@ module _ (s r : List ℕ) (rs : List (List ℕ)) (e : walk s ≡ some rs) where
   pub load-breaks : (w : Violation) → verdict r ≡ check.breaks w → load s r ≡ unchanged s (breaks w)
   unfolding load
   load-breaks w v = rw (e, v, load)
+
+  pub load-fails : (f : Failure) → verdict r ≡ failure_of f → load s r ≡ unchanged s (failure_answer f)
+  unfolding failure_of
+  load-fails (Refused k) v = load-refused _ v
+  load-fails (Breaks w) v = load-breaks _ v
 
   pub load-passing : verdict r ≡ pass → load s r ≡ append s rs r
   unfolding load

@@ -1,52 +1,73 @@
--- What stands at a place: the fields that are read there, and the cases of `front`.
+-- What stands at the start of some bytes, by the fields that are read there.
 use Prim.Native.Nat.{ℕ, ◌+◌, ◌≤◌, ◌<◌}
-use mathlib.Core.Path.{◌≡◌, refl, ap, ◌∙◌}
+use mathlib.Core.Path.{◌≡◌, refl, sym, ap, ◌∙◌}
 use mathlib.Core.Bool.{Bool, true, false, ◌&&◌, cond}
 use mathlib.Core.List.{List}
-use native.Mathlib.Nat.{add-zero}
 use native.Mathlib.Omega.{arith}
 use lib.Dec.{ltb, eqb}
-use lib.ListN.{length, drop}
-use borrow.Author.Tests.{lt-ltb, le-ltb, ltb-false, eq-eqb, ne_eqb}
+use lib.ListN.{length}
+use borrow.Author.Tests.{lt-ltb, le-ltb, ltb-false}
 use Rattle.words.specs.LittleEndian.{number}
-use Rattle.words.proofs.LittleEndian.{number-drop}
 use Rattle.part.specs.Record.{body_length, kind}
-use Rattle.store.specs.Walk.{end_record, record_of, neither, front}
+use Rattle.std.specs.Prelude.{Some, None}
+use Rattle.store.specs.Walk.{Front, end_record, record_of, neither, front}
+use Rattle.store.specs.Leading.{ends_there, size_there}
 
-pub kind_at : (s : List ℕ) (at : ℕ) → kind (drop at s) ≡ number 2 s (at + 4)
-unfolding kind
-kind_at s at = number-drop 2 s at 4
-
-pub body_at : (s : List ℕ) (at : ℕ) → body_length (drop at s) ≡ number 4 s at
-unfolding body_length
-body_at s at = number-drop 4 s at 0 ∙ ap (λ (i : ℕ). number 4 s i) (add-zero at)
-
-abbrev pub ends : List ℕ → Bool
+abbrev ends : List ℕ → Bool
 ends s = eqb (kind s) 0 && eqb (body_length s) 0
 
-pub other-kind : (s : List ℕ) (at k : ℕ) → k ≡ number 2 s (at + 4) → (k ≡ 0 → ⊥) → false ≡ ends (drop at s)
-other-kind s at k e h = rw (kind_at s at, ← e, ne_eqb k 0 h)
-
-pub by_body : (s : List ℕ) (at k l : ℕ) → k ≡ number 2 s (at + 4) → k ≡ 0 → l ≡ number 4 s at
-    → eqb l 0 ≡ ends (drop at s)
-by_body s at k l e h b = rw (kind_at s at, body_at s at, ← e, ← b, eq-eqb k 0 h)
-
-pub front-short : (s : List ℕ) → length s < 6 → front s ≡ neither
+front-short : (s : List ℕ) → length s < 6 → front s ≡ neither
 unfolding front
 front-short s h = rw (lt-ltb _ _ h)
 
-pub front_end : (s : List ℕ) → 6 ≤ length s → ends s ≡ true → front s ≡ end_record
-unfolding front
-front_end s h e = rw (le-ltb _ _ h, e)
+-- ---- whether the end record stands there
 
-pub front-past : (s : List ℕ) → 6 ≤ length s → ends s ≡ false → length s < 6 + body_length s → front s ≡ neither
+ends-long : (s : List ℕ) → 6 ≤ length s → ends s ≡ ends_there (front s)
 unfolding front
-front-past s h e l = rw (le-ltb _ _ h, e, lt-ltb _ _ l)
+ends-long s h = rw (le-ltb _ _ h) (go (ends s) (ltb (length s) (6 + body_length s)))
+  where
+    go : (end past : Bool)
+        → end ≡ ends_there (cond end end_record (cond past neither (record_of (6 + body_length s))))
+    go true past = refl
+    go false true = refl
+    go false false = refl
 
-pub front-record : (s : List ℕ) → 6 ≤ length s → ends s ≡ false → 6 + body_length s ≤ length s
-    → front s ≡ record_of (6 + body_length s)
-unfolding front
-front-record s h e l = rw (le-ltb _ _ h, e, le-ltb _ _ l)
+pub no_end-short : (s : List ℕ) → length s < 6 → false ≡ ends_there (front s)
+no_end-short s h = rw (front-short s h)
+
+module _ (s : List ℕ) (h : 6 ≤ length s) {k : ℕ} (e : k ≡ number 2 s 4) where
+  kind-test : eqb k 0 ≡ eqb (kind s) 0
+  unfolding kind
+  kind-test = ap (λ (n : ℕ). eqb n 0) e
+
+  pub no_end-kind : eqb k 0 ≡ false → false ≡ ends_there (front s)
+  no_end-kind n = ap (λ (t : Bool). t && eqb (body_length s) 0) (sym n ∙ kind-test) ∙ ends-long s h
+
+  pub end_by_body : {l : ℕ} → eqb k 0 ≡ true → l ≡ number 4 s 0 → eqb l 0 ≡ ends_there (front s)
+  unfolding body_length
+  end_by_body {l} z b =
+      ap (λ (n : ℕ). eqb n 0) b
+      ∙ ap (λ (t : Bool). t && eqb (body_length s) 0) (sym z ∙ kind-test)
+      ∙ ends-long s h
+
+-- ---- how long the record is that stands there
+
+pub no_size-short : (s : List ℕ) → length s < 6 → None ≡ size_there (front s)
+no_size-short s h = rw (front-short s h)
+
+pub no_size-end : (f : Front) → ends_there f ≡ true → None ≡ size_there f
+no_size-end end_record e = refl
+no_size-end (record_of n) e = absurd (cc)
+no_size-end neither e = refl
+
+module _ (s : List ℕ) (h : 6 ≤ length s) (e : ends_there (front s) ≡ false) {l : ℕ} (b : l ≡ number 4 s 0) where
+  pub no_size-past : length s < 6 + l → None ≡ size_there (front s)
+  unfolding front body_length
+  no_size-past p = rw (le-ltb _ _ h, ends-long s h ∙ e, ← b, lt-ltb _ _ p)
+
+  pub size-within : 6 + l ≤ length s → Some (6 + l) ≡ size_there (front s)
+  unfolding front body_length
+  size-within p = rw (le-ltb _ _ h, ends-long s h ∙ e, ← b, le-ltb _ _ p)
 
 -- A record has its header and its body.
 pub record Whole (s : List ℕ) (n : ℕ) : Type 0 where
@@ -67,3 +88,9 @@ record-whole s n e = go (ltb (length s) 6) (ends s) (ltb (length s) (6 + body_le
         let fits : 6 + body_length s ≤ length s = ltb-false _ _ p in
         let size : n ≡ 6 + body_length s = cc in
         record { size = size; within = omega arith }
+
+-- And is not the end record.
+pub record-no_end : (s : List ℕ) (n : ℕ) → front s ≡ record_of n → (eqb (kind s) 0 && eqb (body_length s) 0) ≡ false
+record-no_end s n e =
+    let w = record-whole s n e in
+    ends-long s (omega arith) ∙ ap ends_there e

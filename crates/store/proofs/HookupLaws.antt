@@ -1,32 +1,33 @@
 -- What Hookup leaves, case by case: the joined record over the end record, or the shelf as it was.
-use Prim.Native.Nat.{ℕ, ◌+◌, ◌-◌, ◌≤◌, ◌<◌}
+use Prim.Native.Nat.{ℕ, ◌+◌, ◌≤◌, ◌<◌}
 use mathlib.Core.Path.{◌≡◌, refl, sym, ap, ◌∙◌}
 use mathlib.Core.Bool.{true, false}
-use mathlib.Core.List.{List, ◌++◌, flatten, append-nil}
+use mathlib.Core.List.{List, [], ◌++◌, flatten}
+use mathlib.Core.Option as math
 use mathlib.Core.Option.{none, some}
-use native.Mathlib.Nat.{add-zero}
+use native.Mathlib.Nat.{add-zero, zero-add}
+use native.Mathlib.Decide.{dec_lt}
 use native.Mathlib.Omega.{arith}
-use lib.ListN.{length, take, drop, drop_of_length-le, length-drop, length-append}
-use lib.Seq.{take_all, take-append_seam}
-use borrow.Author.Tests.{le-leb, lt-leb}
-use borrow.Rule.Slice.PartMut.{mid_of, put_mid}
+use lib.Dec.{leb}
+use lib.ListN.{length, take, drop, get_or, length-drop, take-append-drop}
+use borrow.Author.Tests.{lt-ltb, le-ltb, le-leb, lt-leb}
+use Rattle.std.specs.Prelude.{Option, Some, None, slice_get}
+use Rattle.std.specs.Option.{option_copied}
+use Rattle.std.specs.Borrow.{Bor}
+use Rattle.std.proofs.lemmas.Option.{slice_get-get_or, slice_get_past, get_or_from_slice_get}
 use Rattle.bounded.proofs.Search.{true_not_false}
-use Rattle.words.specs.Laid.{over, Laid}
-use Rattle.words.proofs.LaidLaws.{over-append, over-part, laid_start}
-use Rattle.part.specs.Format.{max_record}
-use Rattle.part.proofs.Fields.{record-most}
-use Rattle.screening.proofs.Ranges.{frame}
+use Rattle.words.specs.Laid.{over}
+use Rattle.words.proofs.LaidLaws.{over-append, over-part}
 use Rattle.restrictive.specs.Verdict.{Verdict, pass, refused, breaks, verdict}
 use Rattle.composite.specs.Joined.{joined}
 use Rattle.composite.specs.Joining.{Obstacle, obstacle}
-use Rattle.join.proofs.JoinAnswers.{passing-accepted}
 use Rattle.store.specs.Answer as answer
 use Rattle.store.specs.Answer.{obstacle_answer}
 use Rattle.store.specs.Walk.{walk, records}
-use Rattle.store.specs.Found.{Ends}
-use Rattle.store.specs.Reading.{part}
-use Rattle.store.specs.Calls.{end_bytes, Left, append_joined, passes, hookup_of, hookup}
-use Rattle.store.proofs.Appends.{append_full, append-room}
+use Rattle.store.specs.Leading.{leading}
+use Rattle.store.proofs.Leading.{leading-before}
+use Rattle.store.specs.Found.{Ends, append_behind, joined_behind}
+use Rattle.store.specs.Calls.{end_bytes, Left, append, append_joined, passes, hookup_of, hookup}
 
 -- ---- a record that passes
 
@@ -39,67 +40,88 @@ passes-pass r e = go (verdict r) refl
     go (refused k) q = absurd (true_not_false (sym e) (rw (q, passes) refl))
     go (breaks v) q = absurd (true_not_false (sym e) (rw (q, passes) refl))
 
--- It has no more bytes than a record may have.
-pub passing-fits : (r : List ℕ) → true ≡ passes r → length r ≤ max_record
-passing-fits r e = record-most r (frame r (passing-accepted r (passes-pass r e)))
-
--- ---- a copy of a record
-
--- The first n bytes of a list are the record r.
-pub record Copied (r a : List ℕ) (n : ℕ) : Type 0 where
-  pub within : n ≤ length a
-  pub long : n ≡ length (take n a)
-  pub same : take n a ≡ r
-
-pub copied : {d r a : List ℕ} {n : ℕ} → Laid d 0 r a n → length r ≤ length d → Copied r a n
-copied {d} {r} {a} {n} laid h =
-    let (count, all) = laid_start laid (omega (arith, laid.behind)) in
-    let same : take n a ≡ r = rw (all, count) (take-append_seam r (drop (length r) d)) in
-    record {
-      within = omega (arith, ap length all, length-append r (drop n d));
-      long = count ∙ sym (ap length same);
-      same = same;
-    }
-
 -- ---- a record over the end record
 
 -- A call leaves this answer, and this shelf.
 abbrev pub Leaves : Left → answer.Answer → List ℕ → Type 0
 Leaves l a s = (a ≡ l.answer) × (s ≡ l.shelf)
 
-module _ (s : List ℕ) (rs : List (List ℕ)) (a b : List ℕ) where
-  pub joined-stopped : {o : Obstacle} → obstacle a b ≡ some o → Leaves (append_joined s rs a b) (obstacle_answer o) s
-  unfolding append_joined
-  joined-stopped e = rw (e, append_joined) (refl, refl)
+module _ (n : ℕ) (back a b : List ℕ) where
+  pub joined-stopped : {o : Obstacle} → obstacle a b ≡ some o
+      → Leaves (joined_behind n back a b) (obstacle_answer o) back
+  unfolding joined_behind
+  joined-stopped e = rw (e, joined_behind) (refl, refl)
 
-  pub joined_full : obstacle a b ≡ none → length s < length (flatten rs) + length (joined a b) + 6
-      → Leaves (append_joined s rs a b) (answer.refused 15) s
-  unfolding append_joined
-  joined_full e h = rw (e, append_joined, append_full s rs (joined a b) h) (refl, refl)
+  pub joined_full : obstacle a b ≡ none → length back < length (joined a b) + 6
+      → Leaves (joined_behind n back a b) (answer.refused 15) back
+  unfolding joined_behind append_behind
+  joined_full e h = rw (e, joined_behind, lt-ltb _ _ h) (refl, refl)
 
-  pub joined-room : {n : ℕ} {t : List ℕ} → obstacle a b ≡ none
-      → length (flatten rs) + length (joined a b) + 6 ≤ length s → n ≡ length rs
-      → t ≡ over s (length (flatten rs)) (joined a b ++ end_bytes)
-      → Leaves (append_joined s rs a b) (answer.gives n) t
-  unfolding append_joined
-  joined-room e h m q = rw (e, append_joined, append-room s rs (joined a b) h) (ap answer.gives m, q)
+  pub joined-room : {t : List ℕ} → obstacle a b ≡ none → length (joined a b) + 6 ≤ length back
+      → t ≡ over back 0 (joined a b ++ end_bytes)
+      → Leaves (joined_behind n back a b) (answer.gives n) t
+  unfolding joined_behind append_behind
+  joined-room e h q = rw (e, joined_behind, le-ltb _ _ h) (refl, q)
 
--- A record laid over the part of the shelf from a place on is laid over the shelf.
-lent_back : (s r : List ℕ) (at : ℕ) {t : List ℕ} → t ≡ over (mid_of at (length s - at) s) 0 r
-    → put_mid at (length s - at) s t ≡ over s at r
-lent_back s r at {t} laid =
-    let short : length (drop at s) ≤ length s - at = omega (arith, length-drop at s) in
-    ap (λ (l : List ℕ). take at s ++ (t ++ l)) (drop_of_length-le (drop at s) short)
-    ∙ ap (λ (l : List ℕ). take at s ++ l)
-    (append-nil t ∙ laid ∙ ap (λ (l : List ℕ). over l 0 r) (take_all (length s - at) (drop at s) short))
-    ∙ over-part s at 0 r
-    ∙ ap (λ (k : ℕ). over s k r) (add-zero at)
+-- A record at the start, and an end record behind it.
+pub laid_behind : (back r : List ℕ) {t : List ℕ} {k : ℕ} → t ≡ over back 0 r → k ≡ length r
+    → over t k end_bytes ≡ over back 0 (r ++ end_bytes)
+laid_behind back r {t} {k} e h =
+    rw (e, h)
+    (ap (λ (n : ℕ). over (over back 0 r) n end_bytes) (sym (zero-add (length r)))
+    ∙ sym (over-append back 0 r end_bytes))
 
--- And an end record behind it.
-pub laid_behind : (s r : List ℕ) {n at k : ℕ} {t : List ℕ} → Ends s n at → k ≡ length r
-    → t ≡ over (mid_of at (length s - at) s) 0 r
-    → over (put_mid at (length s - at) s t) (at + k) end_bytes ≡ over s (length (flatten (records s))) (r ++ end_bytes)
-laid_behind s r {n} {at} w q laid = rw (← w.place, q, lent_back s r at laid) (sym (over-append s at r end_bytes))
+-- What is left from the end record on is left on the shelf.
+module _ (s : List ℕ) {n at : ℕ} (w : Ends s n at) where
+  append-whole : (r : List ℕ)
+      → Leaves (append s (records s) r) (append_behind n (drop at s) r).answer
+      (take at s ++ (append_behind n (drop at s) r).shelf)
+  unfolding append_behind append
+  append-whole r =
+      let left = length-drop at s in
+      let place = w.place in
+      let within = w.within in
+      elim (dec_lt (length s) (length (flatten (records s)) + length r + 6)) [
+        | yes l ↦
+            rw (lt-ltb _ _ l, lt-ltb (length (drop at s)) (length r + 6) (omega arith)) (refl, take-append-drop at s)
+        | no l ↦
+            rw (
+              le-ltb (length s) (length (flatten (records s)) + length r + 6) (omega arith),
+              le-ltb (length (drop at s)) (length r + 6) (omega arith),
+              ← w.place,
+            ) (
+              ap answer.gives w.many,
+              over-part s at 0 (r ++ end_bytes) ∙ ap (λ (k : ℕ). over s k (r ++ end_bytes)) (add-zero at),
+            )
+      ]
+
+  pub joined-whole : (a b : List ℕ) {t : List ℕ} {x : answer.Answer} → Leaves (joined_behind n (drop at s) a b) x t
+      → Leaves (append_joined s (records s) a b) x (take at s ++ t)
+  unfolding joined_behind append_joined
+  joined-whole a b {t} {x} h = go (obstacle a b) refl h
+    where
+      go : (o : math.Option Obstacle) → obstacle a b ≡ o → Leaves (joined_behind n (drop at s) a b) x t
+          → Leaves (append_joined s (records s) a b) x (take at s ++ t)
+      go none e k =
+          let l = rw (e, joined_behind) at k in
+          let all = append-whole (joined a b) in
+          rw (e, append_joined) (l.0 ∙ all.0, ap (λ (u : List ℕ). take at s ++ u) l.1 ∙ all.1)
+      go (some o) e k =
+          let l = rw (e, joined_behind) at k in
+          rw (e, append_joined) (l.0, ap (λ (u : List ℕ). take at s ++ u) l.1 ∙ take-append-drop at s)
+
+-- ---- a record that is read before the end record
+
+module _ (s : List ℕ) {n at : ℕ} (w : Ends s n at) {f : List ℕ} (before : f ≡ take at s) (k : ℕ)
+    (r : Option (Bor (List ℕ))) (e : option_copied r ≡ slice_get (leading f) k) where
+  there : option_copied r ≡ slice_get (records s) k
+  there = e ∙ ap (λ (rs : List (List ℕ)). slice_get rs k) (ap leading before ∙ leading-before s w)
+
+  pub read_none : r ≡ None → slice_get (records s) k ≡ None
+  read_none q = sym there ∙ ap option_copied q
+
+  pub read_some : {a : Bor (List ℕ)} → r ≡ Some a → slice_get (records s) k ≡ Some a.now
+  read_some q = sym there ∙ ap option_copied q
 
 -- ---- Hookup
 
@@ -109,47 +131,50 @@ module _ (s : List ℕ) (i j : ℕ) where
   hookup-no_end e = rw (e, hookup) (refl, refl)
 
   module _ {n at : ℕ} (w : Ends s n at) where
-    pub hookup-no-first : n ≤ i → Leaves (hookup s i j) (answer.refused 13) s
+    -- Record k is not there, or has these bytes.
+    past : (k : ℕ) → slice_get (records s) k ≡ None → leb (length (records s)) k ≡ true
+    past k e = elim (dec_lt k (length (records s))) [
+      | yes l ↦ let there = slice_get-get_or (records s) k [] l in absurd (cc)
+      | no l ↦ le-leb _ _ (omega arith)
+    ]
+
+    pub hookup-no_first : slice_get (records s) i ≡ None → Leaves (hookup s i j) (answer.refused 13) s
     unfolding hookup
-    hookup-no-first h = rw (w.ends, hookup, le-leb (length (records s)) i (omega (arith, w.many))) (refl, refl)
+    hookup-no_first e = rw (w.ends, hookup, past i e) (refl, refl)
 
-    pub hookup-no-second : i < n → n ≤ j → Leaves (hookup s i j) (answer.refused 13) s
-    unfolding hookup
-    hookup-no-second l h =
-        rw (
-          w.ends,
-          hookup,
-          lt-leb (length (records s)) i (omega (arith, w.many)),
-          le-leb (length (records s)) j (omega (arith, w.many)),
-        )
-        (refl, refl)
+    module _ {a : List ℕ} (p : slice_get (records s) i ≡ Some a) where
+      inside : (k : ℕ) {r : List ℕ} → slice_get (records s) k ≡ Some r
+          → (leb (length (records s)) k ≡ false) × (get_or (records s) k [] ≡ r)
+      inside k {r} e =
+          elim (dec_lt k (length (records s))) [
+            | yes l ↦ (lt-leb _ _ l, get_or_from_slice_get (records s) k r [] e)
+            | no l ↦ let gone = slice_get_past (records s) k (omega arith) in absurd (cc)
+          ]
 
-    module _ (l : i < n) (m : j < n) where
-      both_parts : hookup s i j ≡ hookup_of s (records s) (part s i) (part s j)
-      unfolding hookup part
-      both_parts =
-          rw (
-            w.ends,
-            hookup,
-            lt-leb (length (records s)) i (omega (arith, w.many)),
-            lt-leb (length (records s)) j (omega (arith, w.many)),
-          )
-          refl
+      pub hookup-no_second : slice_get (records s) j ≡ None → Leaves (hookup s i j) (answer.refused 13) s
+      unfolding hookup
+      hookup-no_second e = rw (w.ends, hookup, (inside i p).0, past j e) (refl, refl)
 
-      -- The bytes of the two records are a and b.
-      module _ {a : List ℕ} (p : a ≡ part s i) where
+      module _ {b : List ℕ} (q : slice_get (records s) j ≡ Some b) where
+        both_parts : hookup s i j ≡ hookup_of s (records s) a b
+        unfolding hookup
+        both_parts =
+            rw (w.ends, hookup, (inside i p).0, (inside j q).0, (inside i p).1, (inside j q).1) refl
+
         pub first-unfit : false ≡ passes a → Leaves (hookup s i j) (answer.refused 14) s
         unfolding hookup_of
-        first-unfit f = rw (both_parts, ← p, hookup_of, ← f) (refl, refl)
+        first-unfit f = rw (both_parts, hookup_of, ← f) (refl, refl)
 
-        module _ {b : List ℕ} (q : b ≡ part s j) (f : true ≡ passes a) where
+        module _ (f : true ≡ passes a) where
           pub second-unfit : false ≡ passes b → Leaves (hookup s i j) (answer.refused 14) s
           unfolding hookup_of
-          second-unfit g = rw (both_parts, ← p, ← q, hookup_of, ← f, ← g) (refl, refl)
+          second-unfit g = rw (both_parts, hookup_of, ← f, ← g) (refl, refl)
 
-          -- What is done with copies of them.
-          pub both_fit : {d e t : List ℕ} {x : answer.Answer} → true ≡ passes b → d ≡ a → e ≡ b
-              → Leaves (append_joined s (records s) d e) x t
-              → Leaves (hookup s i j) x t
+          -- What is left before the end record, and from there on.
+          pub both_fit : {front back : List ℕ} → front ≡ take at s → back ≡ drop at s → true ≡ passes b
+              → (x : answer.Answer) (t : List ℕ)
+              → Leaves (joined_behind n back a b) x t
+              → Leaves (hookup s i j) x (front ++ t)
           unfolding hookup_of
-          both_fit g u v h = rw (both_parts, ← p, ← q, hookup_of, ← f, ← g, ← u, ← v) h
+          both_fit u v g x t h =
+              rw (both_parts, hookup_of, ← f, ← g, u) (joined-whole s w a b (rw v at h))

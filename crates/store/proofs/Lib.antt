@@ -1,6 +1,8 @@
 pub mod Each
 pub mod Fronts
 pub mod Steps
+pub mod Leading
+pub mod Told
 pub mod Walks
 pub mod Readings
 pub mod Appends

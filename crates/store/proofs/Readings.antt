@@ -15,7 +15,7 @@ use Rattle.store.specs.Demand.{Begins}
 use Rattle.store.specs.Theorems.{NoPart, no_end, no_record, PartEmptyExactly, PartStands}
 use Rattle.store.proofs.Each.{Each, each_at}
 use Rattle.store.proofs.Fronts.{record-whole}
-use Rattle.store.proofs.Steps.{walked_by, walked_record, walked_length, walked_at}
+use Rattle.store.proofs.Leading.{flatten-at, flatten-within}
 
 -- ---- Count
 
@@ -119,14 +119,20 @@ some_walked s i l = go (walk s) refl
     go (some rs) q = let same : records s ≡ rs = rw (q, records) in rw same q
 
 pub part-stands : PartStands
-unfolding part
+unfolding part place
 part-stands s i l =
     let e = some_walked s i l in
-    let w = walked_at s i e (omega arith) in
-    let long = walked_length s (place s i) i (records s) w e l in
+    let begun = walk_begins s (records s) e in
     record {
-      within = rw (← long) (walked_by s (place s i) i (records s) w e l).within;
-      so = rw (← long) (walked_record s (place s i) i (records s) w e l);
+      within = omega (
+        arith,
+        flatten-within (records s) i l,
+        ap length begun.so,
+        length-append (flatten (records s)) begun.rest,
+      );
+      so = ap (λ (t : List ℕ). take (length (get_or (records s) i [])) (drop (length (flatten (take i (records s)))) t))
+          begun.so
+          ∙ flatten-at (records s) i begun.rest l;
     }
 
 record-within : (rs : List (List ℕ)) (i : ℕ) → length (get_or rs i []) ≤ length (flatten rs)

@@ -14,3 +14,10 @@ pub data Answer : Type 0 where
 unfoldable pub obstacle_answer : joining.Obstacle → Answer
 obstacle_answer (joining.refusal k) = refused k
 obstacle_answer (joining.clash e) = clash e
+
+-- The number that an answer gives or is told by; of a break the rule's.
+abbrev pub number_of : Answer → ℕ
+number_of (gives n) = n
+number_of (refused k) = k
+number_of (clash e) = 10
+number_of (breaks v) = v.rule

@@ -1,6 +1,7 @@
 pub mod Walk
 pub mod Answer
 pub mod Answers
+pub mod Leading
 pub mod Found
 pub mod Reading
 pub mod Calls

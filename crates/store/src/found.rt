@@ -1,20 +1,15 @@
 // What is found on a shelf. specs/Found.antt gives each its meaning.
 
-// What stands at a place: the end record, a record of so many bytes, or neither.
+// The end record: how many records stand before it, and its place.
 #[derive(Clone, Copy)]
-pub enum Standing {
-    End,
-    Record(usize),
-    Neither,
+pub struct End {
+    pub records: usize,
+    pub place: usize,
 }
 
-// What a walk finds.
+// There is no end record.
 #[derive(Clone, Copy)]
-pub enum Found {
-    // The number of records, and where the end record stands behind them.
-    End(usize, usize),
-    NoEnd,
-}
+pub struct NoEnd;
 
 // Where a record stands on the shelf, and how many bytes it has.
 #[derive(Clone, Copy)]

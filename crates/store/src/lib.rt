@@ -8,4 +8,5 @@ pub mod found;
 mod joined;
 pub mod reading;
 pub mod record;
+mod records;
 pub mod walk;

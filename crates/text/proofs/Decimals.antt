@@ -2,9 +2,12 @@
 use Prim.Native.Nat.{ℕ, zero, suc, ◌+◌, ◌/◌, ◌^◌, ◌≤◌, ◌<◌}
 use mathlib.Core.Path.{◌≡◌, refl, sym, ap, ◌∙◌}
 use mathlib.Core.List.{List, [], ◌∷◌, ◌++◌}
+use native.Mathlib.Nat.{mod-eq_of_lt}
 use native.Mathlib.Decide.{dec_lt}
 use native.Mathlib.Omega.{arith}
 use lib.ListN.{length, set, length-append}
+use Rattle.std.specs.Fmt as std
+use Rattle.std.proofs.lemmas.Fmt.{decimal_by_steps}
 use Rattle.words.specs.Laid.{over}
 use Rattle.words.proofs.LaidLaws.{over_one, over_last}
 use Rattle.text.specs.Decimal.{last_digit, digits, decimal}
@@ -94,3 +97,10 @@ number_end out at i n h e =
     let place : i ≡ at = omega arith in
     ap (λ (k : ℕ). set out k (last_digit n)) place ∙ sym (over_one out at (last_digit n)) ∙ ap (over out at)
     (sym (decimal_one n h))
+
+-- ---- as the library writes it
+
+pub decimal_same : (n : ℕ) → n < 2 ^ 64 → std.decimal n ≡ decimal n
+decimal_same n h =
+    decimal_by_steps (λ (n : ℕ) (ds : List ℕ). ds ≡ decimal n) (λ n l. ap (λ (k : ℕ). (48 + k) ∷ []) (sym (mod-eq_of_lt l)) ∙ sym (decimal_one n l))
+    (λ n ds l e. ap (λ (ds : List ℕ). ds ++ (last_digit n ∷ [])) e ∙ sym (decimal-more n l)) n h

@@ -1,5 +1,5 @@
 // Text: decimal and hexadecimal numbers laid over bytes.
 #![tactic(auto)]
 
-pub mod decimal;
 pub mod hex;
+pub mod line;

@@ -1,11 +1,9 @@
 -- The laws of the lines with bytes in them.
 use Prim.Native.Nat.{ℕ, ◌+◌, ◌*◌, ◌≤◌, ◌<◌}
-use mathlib.Core.Path.{◌≡◌, refl, ap, ◌∙◌}
+use mathlib.Core.Path.{◌≡◌, refl}
 use mathlib.Core.List.{List, [], ◌∷◌, ◌++◌}
 use native.Mathlib.Omega.{arith}
 use lib.ListN.{length}
-use Rattle.words.specs.Laid.{Laid}
-use Rattle.words.proofs.LaidLaws.{length_over}
 use Rattle.text.specs.Hex.{hex}
 use Rattle.text.proofs.HexLaws.{length-hex}
 use Rattle.transcript.specs.Lines.{shown}
@@ -24,7 +22,3 @@ pub length-shown : (bytes : List ℕ) → length (shown bytes) ≤ 1 + 2 * lengt
 unfolding shown
 length-shown [] = omega arith
 length-shown (b ∷ bytes) = omega (arith, length-hex (b ∷ bytes))
-
--- Laying changes no length.
-pub laid_length : {d a e : List ℕ} {at r : ℕ} → Laid d at a e r → length e ≡ length d
-laid_length {d} {a} {e} {at} p = ap length p.text ∙ length_over d at a

@@ -4,20 +4,20 @@ ghost use Rattle.std.specs.Prelude.{◌≡◌, ◌++◌, ◌+◌, ◌*◌, ◌�
 ghost use Rattle.words.specs.Laid.{Laid};
 ghost use Rattle.transcript.specs.Lines.{shown, part_line, shelf_line};
 
-use text::decimal::labelled;
-use text::hex::hex;
-use words::copy::lay;
+use text::line::Line;
 
 // A space and the bytes, where there are any.
-fn show(bytes: &[u8], out: &mut [u8], at: usize) -> usize
-    requires { at + (1 + 2 * length bytes.now) ≤ length out.old }
-    ensures { Laid out.old at (shown bytes.now) out.new result }
+fn show(bytes: &[u8], line: &mut Line<'_>)
+    requires { line.old.at + (1 + 2 * length bytes.now) ≤ length line.old.out.now }
+    ensures same_reference { line.new.out.ghost_name ≡ line.old.out.ghost_name }
+    ensures laid { Laid line.old.out.now line.old.at (shown bytes.now) line.new.out.now line.new.at }
+    ensures room { length line.new.out.now ≡ length line.old.out.now }
 {
-    if bytes.len() == 0 {
-        return at;
+    if bytes.is_empty() {
+        return;
     }
-    let next = lay(b" ", out, at);
-    hex(bytes, out, next)
+    line.word(b" ");
+    line.hex(bytes);
 }
 
 // What Part gives.
@@ -26,9 +26,11 @@ pub fn part(bytes: &[u8], out: &mut [u8]) -> usize
     ensures value { result ≡ length (part_line bytes.now) }
     ensures out_after { out.new ≡ part_line bytes.now ++ drop result out.old }
 {
-    let at = labelled(b"part bytes ", bytes.len(), out, 0);
-    let end = show(bytes, out, at);
-    lay(b"\n", out, end)
+    let mut line = Line::over(out);
+    line.labelled(b"part bytes ", bytes.len());
+    show(bytes, &mut line);
+    line.word(b"\n");
+    line.at
 }
 
 // The whole shelf.
@@ -37,7 +39,9 @@ pub fn shelf(bytes: &[u8], out: &mut [u8]) -> usize
     ensures value { result ≡ length (shelf_line bytes.now) }
     ensures out_after { out.new ≡ shelf_line bytes.now ++ drop result out.old }
 {
-    let at = lay(b"shelf ", out, 0);
-    let end = hex(bytes, out, at);
-    lay(b"\n", out, end)
+    let mut line = Line::over(out);
+    line.word(b"shelf ");
+    line.hex(bytes);
+    line.word(b"\n");
+    line.at
 }

@@ -20,7 +20,8 @@ fn print<W: Write>(input: &[u8], writer: &mut W) -> io::Result<()>
     writer.write_all(&out[..n])
 }
 
-// Reads N bytes at most, and writes their line.
+// Reads N bytes at most, and writes their line. `replay` has the same four lines over its own work: one function for both
+// would take that as a closure over the writer, with a contract longer than they are.
 fn judge<R: Read, W: Write, const N: usize>(reader: &mut R, writer: &mut W) -> io::Result<()>
     requires { N < 2 ^ 63 }
     ensures written { OnOk result (IfSome (R.remaining reader.old) (λ input.

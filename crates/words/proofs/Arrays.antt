@@ -5,12 +5,16 @@ use mathlib.Core.List.{List, [], ◌∷◌, ◌++◌, append_assoc}
 use native.Mathlib.Nat.{ne_of_lt}
 use native.Mathlib.Decide.{dec_lt}
 use native.Mathlib.Omega.{arith}
-use lib.Seq.{get_or-set_same, get_or-set_other, take-append_seam}
-use lib.ListN.{length, get_or, take, drop, set, replicate, length-append, length-set, length-replicate}
+use lib.Seq.{set-append_seam, get_or-set_same, get_or-set_other, length-take-le, get_or-append-add, get_or-drop}
+use lib.ListN.{length, get_or, take, drop, set, replicate, length-append, length-set, length-replicate, length-drop, get_or-append}
 use Rattle.words.specs.Arrays.{padded, Filled}
 
 abbrev zeros : ℕ → List ℕ
 zeros n = replicate n 0
+
+-- The first s words of xs are as `holds` says.
+pub record Front (holds : ℕ → ℕ → Type 0) (s : ℕ) (xs : List ℕ) : Type 0 where
+  pub words : (u : ℕ) → u < s → holds u (get_or xs u 0)
 
 module _ {holds : ℕ → ℕ → Type 0} where
   pub filled_start : {old : List ℕ} → length old ≡ 64 → Filled holds 0 old old
@@ -34,6 +38,37 @@ module _ {holds : ℕ → ℕ → Type 0} where
     kept = λ u h. get_or-set_other xs s u x 0 (λ e. omega arith) ∙ before.kept u (omega arith);
   }
 
+  pub front_start : (xs : List ℕ) → Front holds 0 xs
+  front_start xs = record { words = λ u h. absurd (omega arith) }
+
+  pub front_more : {xs : List ℕ} {s : ℕ} (x : ℕ) → s < length xs → Front holds s xs → holds s x → Front holds (s + 1) (set xs s x)
+  front_more {xs} {s} x l before here = record {
+    words = λ u h.
+        elim (dec_lt u s) [
+          | yes k ↦ subst (holds u) (sym (get_or-set_other xs s u x 0 (ne_of_lt k))) (before.words u k)
+          | no k ↦ let e : s ≡ u = omega arith in
+              subst (λ (v : ℕ). holds v (get_or (set xs s x) v 0)) e
+              (subst (holds s) (sym (get_or-set_same xs s x 0 l)) here)
+        ];
+  }
+
+  -- Such words over the start of a list.
+  pub filled_front : {old xs : List ℕ} {n s : ℕ} → length old ≡ 64 → n ≤ 64 → length xs ≡ length (take n old) → length xs ≤ s
+      → Front holds s xs → Filled holds n old (xs ++ drop n old)
+  filled_front {old} {xs} {n} size few long all front =
+      let same : length xs ≡ n = long ∙ length-take-le n old (omega arith) in
+      record {
+        size = length-append xs (drop n old) ∙ omega (arith, length-drop n old);
+        words = λ s h. rw (get_or-append xs (drop n old) 0 s (omega arith)) (front.words s (omega arith));
+        kept = λ s h.
+            let place : length xs + (s - n) ≡ s = omega arith in
+            let whole : n + (s - n) ≡ s = omega arith in
+            ap (λ (k : ℕ). get_or (xs ++ drop n old) k 0) (sym place)
+            ∙ get_or-append-add xs (drop n old) (s - n) 0
+            ∙ get_or-drop n old (s - n) 0
+            ∙ ap (λ (k : ℕ). get_or old k 0) whole;
+      }
+
   pub filled_end : {old xs : List ℕ} {s n : ℕ} → s ≡ n → Filled holds s old xs → Filled holds n old xs
   filled_end {old} {xs} e before = subst (λ (n : ℕ). Filled holds n old xs) e before
 
@@ -49,7 +84,7 @@ pub filled_already : {holds : ℕ → ℕ → Type 0} {xs : List ℕ} {n : ℕ} 
     → Filled holds n xs xs
 filled_already e f = record { size = e; words = f; kept = λ s h. refl }
 
-zero_at : (k s : ℕ) → get_or (zeros k) s 0 ≡ 0
+pub zero_at : (k s : ℕ) → get_or (zeros k) s 0 ≡ 0
 zero_at zero s = refl
 zero_at (suc k) zero = refl
 zero_at (suc k) (suc s) = zero_at k s
@@ -78,29 +113,14 @@ filled_again f p q = record {
 
 -- ---- zeros behind a list
 
-drop-zeros : (k n : ℕ) → drop k (zeros n) ≡ zeros (n - k)
-drop-zeros zero n = let e : n ≡ n - 0 = omega arith in ap zeros e
-drop-zeros (suc k) zero = let e : 0 ≡ 0 - suc k = omega arith in ap zeros e
-drop-zeros (suc k) (suc n) = let e : n - k ≡ suc n - suc k = omega arith in drop-zeros k n ∙ ap zeros e
-
--- The element behind a list, replaced.
-set-behind : (xs ys : List ℕ) (y x : ℕ) → set (xs ++ (y ∷ ys)) (length xs) x ≡ xs ++ (x ∷ ys)
-set-behind [] ys y x = refl
-set-behind (z ∷ xs) ys y x = ap (λ (l : List ℕ). z ∷ l) (set-behind xs ys y x)
-
 module _ (n : ℕ) (xs : List ℕ) where
-  -- A list over the start of n zeros.
-  pub padded-over : {ys : List ℕ} → ys ≡ xs ++ drop (length xs) (replicate n 0) → ys ≡ padded n xs
-  unfolding padded
-  padded-over e = e ∙ rw (drop-zeros _ n)
-
   -- One element more, in the place of the first zero.
   pub padded-more : (x : ℕ) → length xs < n → set (padded n xs) (length xs) x ≡ padded n (xs ++ (x ∷ []))
   unfolding padded
   padded-more x h =
       let left : n - length xs ≡ suc (n - length (xs ++ (x ∷ []))) = omega (arith, length-append xs (x ∷ [])) in
       ap (λ (k : ℕ). set (xs ++ zeros k) (length xs) x) left
-      ∙ set-behind xs (zeros (n - length (xs ++ (x ∷ [])))) 0 x
+      ∙ set-append_seam xs 0 (zeros (n - length (xs ++ (x ∷ [])))) x
       ∙ sym (append_assoc xs (x ∷ []) _)
 
   pub length-padded : length xs ≤ n → length (padded n xs) ≡ n
@@ -109,7 +129,3 @@ module _ (n : ℕ) (xs : List ℕ) where
       length-append xs (zeros (n - length xs))
       ∙ ap (λ (k : ℕ). length xs + k) (length-replicate {A = ℕ} (n - length xs) 0)
       ∙ omega arith
-
-  pub padded-front : {ys : List ℕ} → ys ≡ padded n xs → take (length xs) ys ≡ xs
-  unfolding padded
-  padded-front e = ap (take (length xs)) e ∙ take-append_seam xs (zeros (n - length xs))

@@ -5,9 +5,9 @@ use mathlib.Core.List.{List, [], ◌∷◌, ◌++◌, append_assoc}
 use native.Mathlib.Nat.{ne_of_lt, zero-add, add-zero, le-add_right}
 use native.Mathlib.Numerals.{add-one}
 use native.Mathlib.Omega.{arith}
-use lib.ListN.{length, get_or, take, drop, set, length-append, drop_of_length-le, take-append-drop}
-use lib.Seq.{sets, sets-eq, length-sets, set_comm, drop-cons, take_at, drop_at, length-take-le, take-set-le}
-use lib.Seq.{drop-set-add}
+use lib.ListN.{length, take, drop, set, length-append, take-append-drop}
+use lib.Seq.{sets, sets-eq, length-sets, set_comm, take_at, drop_at, length-take-le, take-set-le}
+use lib.Seq.{drop-set-add, drop-drop}
 use Rattle.bounded.specs.Search.{each}
 use Rattle.words.specs.LittleEndian.{digits}
 use Rattle.words.specs.Laid.{over, Laid}
@@ -61,6 +61,15 @@ over-part out k at (x ∷ a) =
     rw (← take-set-le k _ (k + at) x (le-add_right k at), ← drop-set-add k out at x) (over-part stored k _ a
     ∙ ap (λ (i : ℕ). sets stored i a) e)
 
+-- A part of the list, replaced by as many bytes.
+pub over-replaced : (out : List ℕ) (at k : ℕ) (a : List ℕ) → k ≡ length a → at + length a ≤ length out
+    → take at out ++ (a ++ drop k (drop at out)) ≡ over out at a
+unfolding over
+over-replaced out at k a e h =
+    ap (λ (n : ℕ). take at out ++ (a ++ drop n (drop at out))) e
+    ∙ ap (λ (rest : List ℕ). take at out ++ (a ++ rest)) (drop-drop (length a) at out)
+    ∙ sym (sets-eq a out at h ∙ append_assoc (take at out) a (drop (at + length a) out))
+
 -- A number in two parts, its low bytes first.
 pub over-digits : (out : List ℕ) (at j k v : ℕ)
     → over (over out at (digits j v)) (at + j) (digits k (v / 256 ^ j)) ≡ over out at (digits (j + k) v)
@@ -70,18 +79,6 @@ over-digits out at j k v =
     ∙ ap (over out at) (sym (digits-split j k v))
 
 -- ---- the turns of the loops
-
--- A word, from its first byte on: one byte more.
-pub word_turn : (out bytes : List ℕ) (at i : ℕ) → i < length bytes
-    → over (set out (at + i) (get_or bytes i 0)) (at + (i + 1)) (drop (i + 1) bytes) ≡ over out (at + i) (drop i bytes)
-unfolding over
-word_turn out bytes at i h =
-    let e : at + (i + 1) ≡ suc (at + i) = omega arith in
-    rw (e, add-one i) (ap (sets out (at + i)) (sym (drop-cons bytes i 0 h)))
-
-pub word_end : (out bytes : List ℕ) (at i : ℕ) → length bytes ≤ i → over out (at + i) (drop i bytes) ≡ out
-unfolding over
-word_end out bytes at i h = ap (sets out (at + i)) (drop_of_length-le bytes h)
 
 -- Pieces of k bytes each: one piece more.
 pub each_turn : (out : List ℕ) (at n k : ℕ) (chunk : ℕ → List ℕ) → ((i : ℕ) → i < n → length (chunk i) ≡ k)

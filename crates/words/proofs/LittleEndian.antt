@@ -1,5 +1,5 @@
 -- The laws of little-endian numbers: splitting, bounds, and that reading and writing undo each other.
-use Prim.Native.Nat.{ℕ, zero, suc, ◌+◌, ◌*◌, ◌/◌, ◌%◌, ◌^◌, ◌≤◌, ◌<◌, suc-le-suc}
+use Prim.Native.Nat.{ℕ, zero, suc, ◌+◌, ◌-◌, ◌*◌, ◌/◌, ◌%◌, ◌^◌, ◌≤◌, ◌<◌, suc-le-suc}
 use mathlib.Core.Path.{◌≡◌, refl, sym, ap, ◌∙◌, subst}
 use mathlib.Core.Logic.{⊎_elim}
 use mathlib.Core.List.{List, [], ◌∷◌, ◌++◌, append_assoc}
@@ -9,8 +9,10 @@ use native.Mathlib.Nat.{div-div-eq-div-mul}
 use native.Mathlib.Numerals.{add-one}
 use native.Mathlib.Decide.{dec_lt}
 use native.Mathlib.Omega.{arith}
-use lib.ListN.{length, take, drop, length-append, get_or-eq_default, get_or-append}
-use lib.Seq.{drop-cons, get_or-drop, get_or-append-add, drop-append_seam, drop-drop, take-add}
+use lib.ListN.{length, take, drop, length-append, get_or-eq_default, get_or-append, length-drop}
+use lib.Seq.{take_at, length-take-le, drop-cons, get_or-drop, get_or-append-add, drop-append_seam, drop-drop, take-add}
+use Rattle.std.proofs.lemmas.List.{get_or-take}
+use Rattle.std.specs.Int.{from_le_bytes, to_le_bytes, bytes_low_first, w64}
 use Rattle.bounded.specs.Search.{each}
 use Rattle.bounded.proofs.Lists.{each_add}
 use Rattle.words.specs.LittleEndian.{Bytes, byte, number, digits}
@@ -155,6 +157,53 @@ bytes-part n b at h =
     each_parts n 1 (λ i. byte b (at + i) ∷ []) b at
     (λ i l. let within : at + i < length b = omega arith in rw (one-mul, drop-cons b (at + i) 0))
     ∙ rw (mul-one n)
+
+-- ---- the machine's eight bytes
+
+-- A list that reads as zeros holds 0.
+number_zeros : (k : ℕ) (b : List ℕ) (at : ℕ) → ((i : ℕ) → byte b i ≡ 0) → number k b at ≡ 0
+unfolding number
+number_zeros zero b at h = refl
+number_zeros (suc k) b at h = rw (h at, number_zeros k b (at + 1) h) refl
+
+eight-bytes : (b : List ℕ) → from_le_bytes w64 b ≡ number 8 b 0
+unfolding number
+eight-bytes b = omega arith
+
+-- The n bytes of s from `at` on, with zeros behind them, hold their number.
+pub number_padded : (n : ℕ) (s xs rest : List ℕ) (at : ℕ) → n ≤ 8 → at + n ≤ length s → xs ≡ take n (drop at s)
+    → ((i : ℕ) → byte rest i ≡ 0) → from_le_bytes w64 (xs ++ rest) ≡ number n s at
+number_padded n s xs rest at few room e none =
+    let whole : n + (8 - n) ≡ 8 = omega arith in
+    let size : length xs ≡ n = rw e (length-take-le n (drop at s) (omega (arith, length-drop at s))) in
+    let front : number n (xs ++ rest) 0 ≡ number n s at =
+    number_same n (xs ++ rest) s 0 at (λ i l.
+    get_or-append xs rest 0 (0 + i) (omega arith)
+    ∙ rw (e, zero-add i) (get_or-take n (drop at s) i 0 l ∙ get_or-drop at s i 0)) in
+    let place : 0 + n ≡ length xs + 0 = omega arith in
+    let behind : number (8 - n) (xs ++ rest) (0 + n) ≡ 0 =
+    ap (number (8 - n) (xs ++ rest)) place ∙ number_behind (8 - n) xs rest 0 ∙ number_zeros (8 - n) rest 0 none in
+    eight-bytes (xs ++ rest)
+    ∙ ap (λ (k : ℕ). number k (xs ++ rest) 0) (sym whole)
+    ∙ number-split n (8 - n) (xs ++ rest) 0
+    ∙ rw behind (omega (arith, front))
+
+low-bytes : (i k v : ℕ) → bytes_low_first i k v ≡ digits k (v / 256 ^ i)
+unfolding digits
+low-bytes i zero v = refl
+low-bytes zero (suc k) v = rw (low-bytes 1 k v, div-one v) refl
+low-bytes (suc i) (suc k) v =
+    let next : v / 256 ^ suc i / 256 ≡ v / 256 ^ suc (suc i) =
+    div-div-eq-div-mul v (256 ^ suc i) 256 ∙ ap (λ (p : ℕ). v / p) (omega arith) in
+    rw (low-bytes (suc (suc i)) k v, next) refl
+
+-- The n lowest of the eight bytes of v.
+pub digits-front : (n v : ℕ) → n ≤ 8 → take n (to_le_bytes w64 v) ≡ digits n v
+digits-front n v few =
+    let whole : n + (8 - n) ≡ 8 = omega arith in
+    ap (take n) (low-bytes 0 8 v ∙ ap (digits 8) (div-one v) ∙ ap (λ (k : ℕ). digits k v) (sym whole)
+    ∙ digits-split n (8 - n) v)
+    ∙ take_at (digits n v) (digits (8 - n) (v / 256 ^ n)) n (length_digits n v)
 
 -- ---- lists of bytes
 

@@ -3,7 +3,7 @@ use Prim.Native.Nat.{ℕ, zero, suc, ◌+◌, ◌-◌, ◌*◌, ◌/◌, ◌%◌
 use mathlib.Core.Path.{◌≡◌, refl, sym, ap, ◌∙◌, subst}
 use mathlib.Core.Bool.{Bool, true, false, not, ◌||◌, ◌&&◌, cond}
 use mathlib.Core.Logic.{◌↔◌, ⊎_elim}
-use native.Mathlib.Nat.{div-one, div-eq_of_lt, mod-lt, lt_of_lt_of_le, pow-succ', zero-div, mod-eq_of_lt, one-mul}
+use native.Mathlib.Nat.{div-one, div-eq_of_lt, mod-lt, lt_of_lt_of_le, lt_of_le_of_lt, pow-succ', zero-div, mod-eq_of_lt, one-mul}
 use native.Mathlib.Nat.{le-div_iff_mul-le, lt_of_not-le, le_step, lt-suc_self, add-zero}
 use native.Mathlib.Numerals.{one-add, add-one}
 use native.Mathlib.Decide.{dec_le, dec_lt, ℕ_discrete as dec_eq}
@@ -13,11 +13,13 @@ use lib.Dec.{eqb, ltb, leb, lit<, eqb-suc-suc, eqb-zero-suc, eqb-suc-zero}
 use lib.Arith.{digits_mod}
 use lib.Pow.{shr-shr, pow_mono, pow_pos, pow-lt, field, mod-mod-pow, high, low}
 use lib.Bits.{bit_and, bit_or, bit_xor, differ, and_shr, or_shr, xor_shr, and_step, or_step, xor_step}
-use lib.Bits.{and_lt, or_lt, and_self}
+use lib.Bits.{and_lt, or_lt, xor_lt, and_le_l, and_self}
 use lib.Count.{count_trailing_zeros, under}
 use borrow.Author.Tests.{eqb-true, eq-eqb, ne_eqb, lt-ltb, le-ltb, leb-false, lt-leb, le-leb}
 use mathlib.Core.List.{List}
 use lib.ListN.{get_or}
+use Rattle.std.specs.Int.{bit_not, w64}
+use Rattle.std.proofs.lemmas.Nat.Bits.{bit_at_and, bit_at_not, bit_at_xor, bit_at-lt, same_from_bits_below}
 use Rattle.bounded.proofs.Search.{any_at, any_found, same_truth, is_false, is_true, true_not_false, true_or_false}
 use Rattle.bounded.proofs.Search.{and_now, and_never, and_left, and_right, or_left, or_right, or_now, or-then}
 use Rattle.words.specs.Sets.{gathered, bit, union, intersection, difference, single, lowest, without, exceeds}
@@ -402,6 +404,26 @@ without_less x t n = omega (arith, pow_pos t)
 pub shifted_one : (t : ℕ) → t < 64 → 1 * 2 ^ t % 2 ^ 64 ≡ single t
 unfolding single
 shifted_one t h = rw (one-mul (2 ^ t)) (mod-eq_of_lt (pow-lt h))
+
+-- ---- what the code of `difference` computes
+
+pub and-not : (x y : ℕ) → x < 2 ^ 64 → y < 2 ^ 64 → bit_and x (bit_not w64 y) ≡ difference x y
+unfolding difference intersection
+and-not x y h l =
+    same_from_bits_below 64 _ _ (below (bit_not w64 y)) (xor_lt 64 x (bit_and x y) h (below y))
+    (λ i k.
+    omega (
+      arith,
+      bit_at_and x (bit_not w64 y) i,
+      bit_at_not w64 y i l k,
+      bit_at_xor x (bit_and x y) i,
+      bit_at_and x y i,
+      bit_at-lt x i,
+      bit_at-lt y i,
+    ))
+  where
+    below : (z : ℕ) → bit_and x z < 2 ^ 64
+    below z = lt_of_le_of_lt (and_le_l x z) h
 
 -- ---- gathering
 

@@ -1,5 +1,5 @@
 -- Sets of states as 64-bit words: t is a member of x where bit t of x is set, bit 0 lowest (document 01, "The part record").
-use Rattle.std.specs.Prelude.{ℕ, zero, suc, ◌+◌, ◌-◌, ◌/◌, ◌%◌, ◌^◌, ◌<◌, ◌≡◌, Bool, ◌&&◌, cond, List, get_or, eqb, leb}
+use Rattle.std.specs.Prelude.{ℕ, zero, suc, ◌+◌, ◌-◌, ◌/◌, ◌%◌, ◌^◌, ◌<◌, ◌≡◌, Bool, ◌&&◌, cond, List, get_or, eqb, leb, Option, MatchOption}
 use Rattle.bounded.specs.Search.{any}
 use Rattle.std.specs.Int.Bits.{bit_and, bit_or, bit_xor}
 use Rattle.std.specs.Int.Count.{count_trailing_zeros}
@@ -52,3 +52,9 @@ Rows n xs test = (s : ℕ) → s < n → Represents (get_or xs s 0) (test s)
 -- c is in the word of the list at some member of x below n.
 unfoldable pub gathered : ℕ → ℕ → List ℕ → ℕ → Bool
 gathered n x table c = any n (λ t. bit x t && bit (get_or table t 0) c)
+
+-- The next member of `rest`, its lowest, and what is left behind it. There is none where rest is empty.
+abbrev pub NextMember : ℕ → Option ℕ → ℕ → Type 0
+NextMember rest next left =
+    MatchOption next ((rest ≡ 0) × (left ≡ 0))
+    (λ t. (rest ≡ 0 → ⊥) × (t ≡ lowest rest) × (left ≡ without rest (lowest rest)))

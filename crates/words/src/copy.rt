@@ -7,10 +7,7 @@ pub fn lay(bytes: &[u8], out: &mut [u8], at: usize) -> usize
     requires { at + length bytes.now ≤ length out.old }
     ensures { Laid out.old at bytes.now out.new result }
 {
-    let mut i = 0;
-    while i < bytes.len() {
-        out[at + i] = bytes[i];
-        i += 1;
-    }
-    at + bytes.len()
+    let behind = at + bytes.len();
+    out[at..behind].copy_from_slice(bytes);
+    behind
 }

@@ -17,7 +17,7 @@ returns-clause-head g c =
 pub returns-clause-next : goal.returns-clause-next
 returns-clause-next g c =
     let n = c.in_ok-n.n in
-    let most = c.within_chunk.result in
+    let most = c.min-most.result in
     let chunk = c.read_chunk.new.chunk in
     let few : n ≤ most = c.in_ok-n.ensures.within in
     let size : length (take n chunk) ≡ n = length-take-le n chunk (omega (arith, few)) in

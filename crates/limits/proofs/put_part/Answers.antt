@@ -4,4 +4,4 @@ use Rattle.limits.proofs.put_part.Goals as goal
 
 pub returns : goal.returns
 unfolding part_over
-returns c = rw (c.put16.ensures, c.put32.ensures) refl
+returns c = rw (c.put-2.ensures, c.put.ensures) refl

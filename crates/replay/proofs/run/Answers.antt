@@ -14,14 +14,14 @@ returns-then-script-lt4 g c =
 pub returns-then-capacity-gt-MOST : goal.returns-then-capacity-gt-MOST
 returns-then-capacity-gt-MOST g c =
     let written = c.write_all-then-capacity-gt-MOST in
-    let n = c.u32_at-capacity in
+    let n = c.number-capacity in
     on_text written.result _ _
     (too_large c.args.script.now (omega arith) n.result n.ensures.value (omega arith) (omega arith))
     written.ensures.bytes
 
 pub returns : goal.returns
 returns g c =
-    let n = c.u32_at-capacity in
+    let n = c.number-capacity in
     on_text c.replay_on_new.result _ _
     (replayed c.args.script.now (omega arith) n.result n.ensures.value (omega arith) (omega arith))
     c.replay_on_new.ensures

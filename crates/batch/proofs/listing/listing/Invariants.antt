@@ -1,9 +1,6 @@
-use Rattle.std.proofs.Common.{◌-◌, length}
+use Rattle.script.specs.Sequence.{operations}
 use Rattle.batch.proofs.Calls.{Passed}
 use Rattle.batch.proofs.listing.listing.Given as goal
 
-abbrev pub invariant-loop-at : goal.invariant-loop-at
-invariant-loop-at l = Passed l.script l.at l.n
-
-abbrev pub decreases-loop-at : goal.decreases-loop-at
-decreases-loop-at l = length l.script - l.at
+abbrev pub invariant-loop-item : goal.invariant-loop-item
+invariant-loop-item l = Passed l.script l.n (operations l.item-iterator.rest.now)

@@ -9,19 +9,19 @@ pub returns-in-Clear : goal.returns-in-Clear
 unfolding operation_of_call call_of step
 returns-in-Clear c =
     let a = c.args in
-    one_call (operation_of_call a.call a.script.now) clear a.shelf.now
+    one_call (operation_of_call a.call) clear a.shelf.now
     (rw c.in-Clear.is) (c.clear.ensures.result_value, c.clear.ensures.s_after)
 
 pub returns-in-Load : goal.returns-in-Load
 unfolding operation_of_call call_of step
 returns-in-Load c =
     let a = c.args in
-    one_call (operation_of_call a.call a.script.now) (load _) a.shelf.now
+    one_call (operation_of_call a.call) (load _) a.shelf.now
     (rw c.in-Load.is) (c.load.ensures.result_value, c.load.ensures.s_after)
 
 pub returns-in-Hookup : goal.returns-in-Hookup
 unfolding operation_of_call call_of step
 returns-in-Hookup c =
     let a = c.args in
-    one_call (operation_of_call a.call a.script.now) (hookup _ _) a.shelf.now
+    one_call (operation_of_call a.call) (hookup _ _) a.shelf.now
     (rw c.in-Hookup.is) (c.hookup.ensures.result_value, c.hookup.ensures.s_after)

@@ -2,7 +2,6 @@ use Rattle.std.proofs.Common.{◌+◌, ◌*◌, ◌≤◌, ◌<◌, ◌≡◌, r
 use Rattle.words.specs.Laid.{over}
 use Rattle.words.proofs.LaidLaws.{length_over, nothing_laid, piece-turn}
 use Rattle.part.specs.Record.{states}
-use Rattle.screening.proofs.Ranges.{frame}
 use Rattle.closure.proofs.PieceBytes.{length-piece_by, same_block, length-block}
 use Rattle.closure.proofs.writer.put_block.Goals as goal
 use Rattle.closure.proofs.writer.put_block.Goals.{In-loop-s}
@@ -11,24 +10,11 @@ use Rattle.closure.proofs.writer.put_block.Goals.{In-loop-s}
 room : (c : In-loop-s) →
     (c.loop-s.s < 64) × (c.args.at + c.loop-s.s * 136 + 136 ≤ length c.args.out.now)
 room c =
-    let next : c.loop-s.s + 1 ≤ states c.args.b.now = omega (arith, c.loop-s-test.true) in
-    (omega (arith, (frame _ c.requires.accepted).few.most_states), omega (arith, length-block _ c.requires.accepted c.args.o))
-
-pub observer-requires-clause-framed : goal.observer-requires-clause-framed
-observer-requires-clause-framed c =
-    frame _ c.requires.accepted
-
-pub concerned-concerned-requires : goal.concerned-concerned-requires
-concerned-concerned-requires c = frame _ c.requires.accepted
-
-pub step_rows-rows-requires : goal.step_rows-rows-requires
-step_rows-rows-requires c = frame _ c.requires.accepted
-
-pub states-n-requires : goal.states-n-requires
-states-n-requires c = let f = (frame _ c.requires.accepted).whole in omega arith
+    let next : c.loop-s.s + 1 ≤ states c.args.accepted.record.bytes.now = omega (arith, c.loop-s-test.true) in
+    (omega (arith, c.args.accepted.record.framed.few.most_states), omega (arith, length-block _ c.args.accepted.accepted c.args.o))
 
 pub loop-s-init : goal.loop-s-init
-loop-s-init c = (omega arith, nothing_laid _ _ _)
+loop-s-init c = nothing_laid _ _ _
 
 pub put_piece-requires-clause-s_bound : goal.put_piece-requires-clause-s_bound
 put_piece-requires-clause-s_bound c =
@@ -38,17 +24,15 @@ put_piece-requires-clause-s_bound c =
 pub put_piece-requires-clause-has_room : goal.put_piece-requires-clause-has_room
 put_piece-requires-clause-has_room c =
     let (few, fits) = room (goal.at.put_piece-requires-clause-has_room c).In-loop-s in
-    omega (arith, ap length c.loop-s.invariant.1 ∙ length_over _ _ _)
+    omega (arith, ap length c.loop-s.invariant ∙ length_over _ _ _)
 
 pub loop-s-preserved : goal.loop-s-preserved
-loop-s-preserved c = (
-  omega arith,
-  piece-turn _ _ c.loop-s.s 136 _ (λ u. length-piece_by _ 64 u (omega arith)) c.loop-s.invariant.1 refl refl
-      c.put_piece.ensures,
-)
+loop-s-preserved c =
+    piece-turn _ _ c.loop-s.s 136 _ (λ u. length-piece_by _ 64 u (omega arith)) c.loop-s.invariant refl refl
+    c.put_piece.ensures
 
 pub returns : goal.returns
 returns c =
-    let all : c.loop-s.s ≡ states c.args.b.now = omega arith in
-    let silent = rw c.observer.ensures at (c.concerned-concerned.ensures 3 (omega arith)) in
-    c.loop-s.invariant.1 ∙ ap (over _ _) (rw all (same_block _ c.requires.accepted _ _ silent _ c.step_rows-rows.ensures.words))
+    let all : c.loop-s.s ≡ states c.args.accepted.record.bytes.now = omega arith in
+    let silent = rw c.observer.ensures at c.of-roles.ensures.silent_events in
+    c.loop-s.invariant ∙ ap (over _ _) (rw all (same_block _ c.args.accepted.accepted _ _ silent _ c.step_rows-rows.ensures.words))

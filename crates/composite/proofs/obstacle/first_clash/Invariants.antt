@@ -1,4 +1,4 @@
-use Rattle.std.proofs.Common.{◌-◌, ◌≤◌, ◌≡◌}
+use Rattle.std.proofs.Common.{◌≡◌}
 use mathlib.Core.Option.{none}
 use Rattle.bounded.specs.Search.{first}
 use Rattle.composite.specs.Joining.{clash_at}
@@ -6,7 +6,4 @@ use Rattle.composite.proofs.obstacle.first_clash.Given as goal
 
 -- No event before place i clashes.
 abbrev pub invariant-loop-i : goal.invariant-loop-i
-invariant-loop-i l = (l.i ≤ l.m) × (first l.i (clash_at l.a l.b) ≡ none)
-
-abbrev pub decreases-loop-i : goal.decreases-loop-i
-decreases-loop-i l = l.m - l.i
+invariant-loop-i l = first l.i (clash_at l.a.record.bytes.now l.b.record.bytes.now) ≡ none

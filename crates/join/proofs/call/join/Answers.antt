@@ -1,155 +1,91 @@
-use Rattle.std.proofs.Common.{◌≡◌, refl, sym, ap, ◌∙◌, arith}
+use Rattle.std.proofs.Common.{◌≡◌, sym, ap, ◌∙◌, arith, length}
 use mathlib.Core.Option.{none}
+use Rattle.std.proofs.lemmas.Result.{err_from_is_err_and}
 use Rattle.restrictive.specs.Verdict.{pass, verdict}
-use Rattle.restrictive.specs.Answers.{verdict_of}
-use Rattle.composite.specs.Joining.{obstacle, length_is, buffer_after}
+use Rattle.composite.specs.Joined.{joined}
+use Rattle.composite.specs.Joining.{obstacle, length_is, unless_unfit, joining, buffer_after}
 use Rattle.composite.specs.Answers.{joining_of, side_of}
-use Rattle.composite.specs.Walk.{fit_of}
-use Rattle.screening.proofs.Ranges.{frame}
-use Rattle.join.specs.Pieces.{Joint}
-use Rattle.join.proofs.MergedList.{lists-merged}
-use Rattle.join.proofs.JoinAnswers.{refuses, breaking, passing-accepted, joint, first-unfit, second-unfit, obstructed, roomless, roomy}
+use Rattle.join.proofs.JoinAnswers.{stays, obstructed, roomless, roomy}
 use Rattle.join.proofs.call.join.Goals as goal
-use Rattle.join.proofs.call.join.Goals.{In-Joins, In-Pass, In-Pass-second}
+use Rattle.join.proofs.call.join.Goals.{In_ok-first, In_ok-second, In_ok-joint, After-size-size}
 
 -- The first record passes, the second passes, and nothing stops the join.
-first_passes : (c : In-Pass)
-    → verdict c.args.a.now ≡ pass
-unfolding verdict_of
-first_passes c = sym c.check-report_a.ensures.verdict ∙ ap verdict_of c.in-Pass.is
+first_passes : (c : In_ok-first) → verdict c.args.a.now ≡ pass
+first_passes c = c.in_ok-first.ensures.passes.1
 
-second-passes : (c : In-Pass-second)
-    → verdict c.args.b.now ≡ pass
-unfolding verdict_of
-second-passes c = sym c.check-report_b.ensures.verdict ∙ ap verdict_of c.in-Pass-second.is
+second-passes : (c : In_ok-second) → verdict c.args.b.now ≡ pass
+second-passes c = c.in_ok-second.ensures.passes.1
 
-unstopped : (c : In-Joins) → let a =
-    c.args in
-    obstacle a.a.now a.b.now ≡ none
-unfolding fit_of
-unstopped c = sym c.obstacle-fit.ensures ∙ ap fit_of c.in-Joins.is
+unstopped : (c : In_ok-joint) → obstacle c.args.a.now c.args.b.now ≡ none
+unstopped c = rw (c.in_ok-first.ensures.passes.0, c.in_ok-second.ensures.passes.0) at c.in_ok-joint.ensures.fit
 
-fits : (c : In-Joins) → let a =
-    c.args
-    in Joint a.a.now a.b.now
-unfolding verdict_of
-fits c =
-    joint _ _ (sym c.check-report_a.ensures.verdict ∙ ap verdict_of c.in-Pass.is) (sym c.check-report_b.ensures.verdict ∙ ap verdict_of c.in-Pass-second.is) (unstopped c)
+-- The length of their joined record.
+sized : (c : After-size-size) → c.size-size.result ≡ length (joined c.args.a.now c.args.b.now)
+sized c =
+    let parts = c.in_ok-joint.ensures.parts in
+    rw (parts.0, parts.1, c.in_ok-first.ensures.passes.0, c.in_ok-second.ensures.passes.0) at c.size-size.ensures
 
-pub returns-in-Refused-clause-result_value : goal.returns-in-Refused-clause-result_value
-unfolding joining_of side_of verdict_of buffer_after
-returns-in-Refused-clause-result_value c =
-    let seen = sym c.check-report_a.ensures.verdict ∙ ap verdict_of c.in-Refused.is in
-    sym (first-unfit _ _ _ seen (refuses _))
+pub returns-in_err-first-clause-result_value : goal.returns-in_err-first-clause-result_value
+unfolding joining side_of
+returns-in_err-first-clause-result_value c =
+    let p = err_from_is_err_and c.from_residual.result c.from_residual.ensures.1 in
+    rw (p.1, p.2) (sym (c.in_err-first.ensures.unfit _))
 
-pub returns-in-Refused-clause-out_after : goal.returns-in-Refused-clause-out_after
-unfolding joining_of side_of verdict_of buffer_after
-returns-in-Refused-clause-out_after c =
-    let seen = sym c.check-report_a.ensures.verdict ∙ ap verdict_of c.in-Refused.is in
-    refl
+pub returns-in_err-first-clause-out_after : goal.returns-in_err-first-clause-out_after
+returns-in_err-first-clause-out_after c =
+    let p = err_from_is_err_and c.from_residual.result c.from_residual.ensures.1 in
+    rw p.1 (sym (stays _ _ _))
 
-pub returns-in-Break-clause-result_value : goal.returns-in-Break-clause-result_value
-unfolding joining_of side_of verdict_of buffer_after
-returns-in-Break-clause-result_value c =
-    let seen = sym c.check-report_a.ensures.verdict ∙ ap verdict_of c.in-Break.is in
-    sym (first-unfit _ _ _ seen (breaking _))
+pub returns-in_err-second-clause-result_value : goal.returns-in_err-second-clause-result_value
+unfolding joining side_of unless_unfit
+returns-in_err-second-clause-result_value c =
+    let r = c.from_residual-in_err-second in
+    let p = err_from_is_err_and r.result r.ensures.1 in
+    rw (p.1, p.2, first_passes (goal.at.returns-in_err-second-clause-result_value c).In_ok-first)
+    (sym (c.in_err-second.ensures.unfit _))
 
-pub returns-in-Break-clause-out_after : goal.returns-in-Break-clause-out_after
-unfolding joining_of side_of verdict_of buffer_after
-returns-in-Break-clause-out_after c =
-    let seen = sym c.check-report_a.ensures.verdict ∙ ap verdict_of c.in-Break.is in
-    refl
+pub returns-in_err-second-clause-out_after : goal.returns-in_err-second-clause-out_after
+returns-in_err-second-clause-out_after c =
+    let r = c.from_residual-in_err-second in
+    let p = err_from_is_err_and r.result r.ensures.1 in
+    rw p.1 (sym (stays _ _ _))
 
-pub returns-in-Refused-second-clause-result_value : goal.returns-in-Refused-second-clause-result_value
-unfolding joining_of side_of verdict_of buffer_after
-returns-in-Refused-second-clause-result_value c =
-    let seen =
-    sym c.check-report_b.ensures.verdict ∙ ap verdict_of c.in-Refused-second.is in
-    sym (second-unfit _ _ _ (first_passes (goal.at.returns-in-Refused-second-clause-result_value c).In-Pass) seen (refuses _))
+pub returns-in_err-joint-clause-result_value : goal.returns-in_err-joint-clause-result_value
+unfolding joining_of
+returns-in_err-joint-clause-result_value c =
+    let at = goal.at.returns-in_err-joint-clause-result_value c in
+    let r = c.from_residual-in_err-joint in
+    let p = err_from_is_err_and r.result r.ensures.1 in
+    rw (p.1, p.2)
+    (sym (obstructed _ _ _ (first_passes at.In_ok-first) (second-passes at.In_ok-second)
+    (rw (c.in_ok-first.ensures.passes.0, c.in_ok-second.ensures.passes.0) at c.in_err-joint.ensures.fit)))
 
-pub returns-in-Refused-second-clause-out_after : goal.returns-in-Refused-second-clause-out_after
-unfolding joining_of side_of verdict_of buffer_after
-returns-in-Refused-second-clause-out_after c =
-    let seen =
-    sym c.check-report_b.ensures.verdict ∙ ap verdict_of c.in-Refused-second.is in
-    refl
-
-pub returns-in-Break-second-clause-result_value : goal.returns-in-Break-second-clause-result_value
-unfolding joining_of side_of verdict_of buffer_after
-returns-in-Break-second-clause-result_value c =
-    let seen =
-    sym c.check-report_b.ensures.verdict ∙ ap verdict_of c.in-Break-second.is in
-    sym (second-unfit _ _ _ (first_passes (goal.at.returns-in-Break-second-clause-result_value c).In-Pass) seen (breaking _))
-
-pub returns-in-Break-second-clause-out_after : goal.returns-in-Break-second-clause-out_after
-unfolding joining_of side_of verdict_of buffer_after
-returns-in-Break-second-clause-out_after c =
-    let seen =
-    sym c.check-report_b.ensures.verdict ∙ ap verdict_of c.in-Break-second.is in
-    refl
-
-pub merge-list-requires-clause-a_framed : goal.merge-list-requires-clause-a_framed
-merge-list-requires-clause-a_framed c =
-    frame _ (passing-accepted _ (first_passes (goal.at.merge-list-requires-clause-a_framed c).In-Pass))
-
-pub merge-list-requires-clause-b_framed : goal.merge-list-requires-clause-b_framed
-merge-list-requires-clause-b_framed c =
-    frame _
-    (passing-accepted _ (second-passes c))
-
-pub obstacle-fit-requires-clause-a_accepted : goal.obstacle-fit-requires-clause-a_accepted
-obstacle-fit-requires-clause-a_accepted c =
-    passing-accepted _ (first_passes (goal.at.obstacle-fit-requires-clause-a_accepted c).In-Pass)
-
-pub obstacle-fit-requires-clause-b_accepted : goal.obstacle-fit-requires-clause-b_accepted
-obstacle-fit-requires-clause-b_accepted c =
-    passing-accepted _ (second-passes (goal.at.obstacle-fit-requires-clause-b_accepted c).In-Pass-second)
-
-pub returns-in-Stopped-clause-result_value : goal.returns-in-Stopped-clause-result_value
-unfolding joining_of fit_of buffer_after
-returns-in-Stopped-clause-result_value c =
-    let seen = sym c.obstacle-fit.ensures ∙ ap fit_of c.in-Stopped.is in
-    sym (obstructed _ _ _ (first_passes (goal.at.returns-in-Stopped-clause-result_value c).In-Pass) (second-passes (goal.at.returns-in-Stopped-clause-result_value c).In-Pass-second) seen)
-
-pub returns-in-Stopped-clause-out_after : goal.returns-in-Stopped-clause-out_after
-unfolding joining_of fit_of buffer_after
-returns-in-Stopped-clause-out_after c =
-    let seen = sym c.obstacle-fit.ensures ∙ ap fit_of c.in-Stopped.is in
-    refl
-
-pub joined_length-size-requires-clause-joint : goal.joined_length-size-requires-clause-joint
-joined_length-size-requires-clause-joint c =
-    fits c
+pub returns-in_err-joint-clause-out_after : goal.returns-in_err-joint-clause-out_after
+returns-in_err-joint-clause-out_after c =
+    let r = c.from_residual-in_err-joint in
+    let p = err_from_is_err_and r.result r.ensures.1 in
+    rw p.1 (sym (stays _ _ _))
 
 pub returns-then-out-size-clause-result_value : goal.returns-then-out-size-clause-result_value
-unfolding joining_of buffer_after
+unfolding joining_of
 returns-then-out-size-clause-result_value c =
-    sym (roomless _ _ _ (first_passes (goal.at.returns-then-out-size-clause-result_value c).In-Pass) (second-passes (goal.at.returns-then-out-size-clause-result_value c).In-Pass-second) (unstopped (goal.at.returns-then-out-size-clause-result_value c).In-Joins)
-    (omega arith))
+    let at = goal.at.returns-then-out-size-clause-result_value c in
+    sym (roomless _ _ _ (first_passes at.In_ok-first) (second-passes at.In_ok-second) (unstopped at.In_ok-joint)
+    (omega (arith, sized at.After-size-size)))
 
 pub returns-then-out-size-clause-out_after : goal.returns-then-out-size-clause-out_after
-unfolding joining_of buffer_after
-returns-then-out-size-clause-out_after c =
-    refl
-
-pub write-requires-clause-joint : goal.write-requires-clause-joint
-write-requires-clause-joint c =
-    fits (goal.at.write-requires-clause-joint c).In-Joins
-
-pub write-requires-clause-lists : goal.write-requires-clause-lists
-write-requires-clause-lists c =
-    lists-merged _ _ _ _ c.merge-list.ensures.count_value c.merge-list.ensures.identifiers_value
+returns-then-out-size-clause-out_after c = sym (stays _ _ _)
 
 pub returns-clause-result_value : goal.returns-clause-result_value
-unfolding joining_of buffer_after
+unfolding joining_of
 returns-clause-result_value c =
-    let size = c.joined_length-size.ensures in
-    ap length_is size ∙ sym
-    (roomy _ _ _ (first_passes (goal.at.returns-clause-result_value c).In-Pass) (second-passes (goal.at.returns-clause-result_value c).In-Pass-second) (unstopped (goal.at.returns-clause-result_value c).In-Joins)
-    (omega arith))
+    let at = goal.at.returns-clause-result_value c in
+    ap length_is (sized at.After-size-size)
+    ∙ sym (roomy _ _ _ (first_passes at.In_ok-first) (second-passes at.In_ok-second) (unstopped at.In_ok-joint)
+    (omega (arith, sized at.After-size-size)))
 
 pub returns-clause-out_after : goal.returns-clause-out_after
 unfolding joining_of buffer_after
 returns-clause-out_after c =
-    let size = c.joined_length-size.ensures in
-    c.write.ensures
+    let parts = c.in_ok-joint.ensures.parts in
+    rw (parts.0, parts.1, c.in_ok-first.ensures.passes.0, c.in_ok-second.ensures.passes.0) at c.write.ensures

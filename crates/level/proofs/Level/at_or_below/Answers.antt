@@ -1,23 +1,16 @@
-use Rattle.std.proofs.Common.{sym, arith}
+use Rattle.std.proofs.Common.{◌∙◌, sym, arith}
+use borrow.Author.Tests.{lt-leb}
 use Rattle.words.specs.Sets.{intersection}
-use Rattle.level.proofs.Order.{rank_above, all_common, some-missing}
+use Rattle.level.proofs.Order.{rank_above, compared}
 use Rattle.level.proofs.Level.at_or_below.Goals as goal
 
 pub returns-then-rank : goal.returns-then-rank
-returns-then-rank c = sym (rank_above _ _ (omega (arith, c.rank.ensures, c.rank-2.ensures)))
-
-pub returns-then-common-own : goal.returns-then-common-own
 unfolding intersection
-returns-then-common-own c =
-    let own = c.compartments-own.ensures in
-    let other = c.compartments.ensures in
-    let test = c.if-common-own.true in
-    sym (all_common _ _ (omega (arith, c.rank.ensures, c.rank-2.ensures))
-    (cc))
+returns-then-rank c =
+    rw (c.compartments-own.ensures, c.compartments.ensures)
+    (compared c.args.a c.args.b (omega (arith, c.rank.ensures, c.rank-2.ensures)))
 
-pub returns : goal.returns
-unfolding intersection
-returns c =
-    let own = c.compartments-own.ensures in
-    let other = c.compartments.ensures in
-    sym (some-missing _ _ (λ e. c.if-common-own.false (cc)))
+pub returns-else-rank : goal.returns-else-rank
+returns-else-rank c =
+    let above = rank_above c.args.a c.args.b (omega (arith, c.rank.ensures, c.rank-2.ensures)) in
+    lt-leb _ _ (omega arith) ∙ sym above

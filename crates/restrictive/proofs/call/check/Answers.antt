@@ -1,30 +1,33 @@
-use Rattle.std.proofs.Common.{◌≡◌, refl, sym, ap, ◌∙◌}
+use Rattle.std.proofs.Common.{◌≡◌, sym, ap, ◌∙◌}
 use mathlib.Core.Option.{none}
+use Rattle.std.proofs.lemmas.Result.{err_from_is_err_and}
 use Rattle.screening.specs.Rejections.{rejection}
 use Rattle.screening.specs.Answers.{rejection_of}
-use Rattle.restrictive.specs.Answers.{verdict_of}
-use Rattle.restrictive.proofs.Verdicts.{reports_refused, reports_rules}
+use Rattle.restrictive.specs.Verdict.{limit}
+use Rattle.restrictive.proofs.Verdicts.{reports_refused, reports_pass, reports_break}
 use Rattle.restrictive.proofs.call.check.Goals as goal
-use Rattle.restrictive.proofs.call.check.Goals.{In-Accepted}
+use Rattle.restrictive.proofs.call.check.Goals.{In_ok-accepted}
 
 -- no rejection applies
-accepted : (c : In-Accepted) → rejection c.args.bytes.now ≡ none
+accepted : (c : In_ok-accepted) → rejection c.args.bytes.now ≡ none
 unfolding rejection_of
-accepted c = sym c.screen-screened.ensures ∙ ap rejection_of c.in-Accepted.is
+accepted c = sym c.in_ok-accepted.ensures.rejection
 
-pub returns-in-Rejected : goal.returns-in-Rejected
-unfolding verdict_of rejection_of
-returns-in-Rejected c =
-    reports_refused _ _
-    (sym c.screen-screened.ensures ∙ ap rejection_of c.in-Rejected.is) refl
+pub returns-in_err-accepted : goal.returns-in_err-accepted
+unfolding rejection_of
+returns-in_err-accepted c =
+    let p = err_from_is_err_and c.from_residual.result c.from_residual.ensures.1 in
+    rw (p.1, p.2) (reports_refused _ _ (sym c.in_err-accepted.ensures.rejection))
 
-pub by_observers-rules-requires : goal.by_observers-rules-requires
-by_observers-rules-requires c = accepted c
-
-pub limit_by-requires : goal.limit_by-requires
-limit_by-requires c = accepted (goal.at.limit_by-requires c).In-Accepted
+pub returns-in_err-taken : goal.returns-in_err-taken
+returns-in_err-taken c =
+    let p = err_from_is_err_and c.from_residual-in_err-taken.result c.from_residual-in_err-taken.ensures.1 in
+    rw (p.1, p.2)
+    (reports_break _ _ (accepted (goal.at.returns-in_err-taken c).In_ok-accepted)
+    (rw c.in_ok-accepted.ensures.bytes at c.in_err-taken.ensures))
 
 pub returns : goal.returns
 returns c =
-    reports_rules _ c.by_observers-rules.result (accepted (goal.at.returns c).In-Accepted) c.by_observers-rules.ensures c.by_rules.ensures _
-    c.limit_by.ensures
+    let e = c.in_ok-accepted.ensures.bytes in
+    reports_pass _ _ _ (accepted (goal.at.returns c).In_ok-accepted)
+    (rw e at c.in_ok-taken.ensures) (c.limit_of.ensures ∙ ap limit e)

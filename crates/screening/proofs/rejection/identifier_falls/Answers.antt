@@ -1,10 +1,10 @@
-use Rattle.std.proofs.Common.{sym}
+use Rattle.std.proofs.Common.{sym, le-ltb, ◌∙◌, arith}
 use Rattle.screening.proofs.Rejections.{falls-first, falls-later}
 use Rattle.screening.proofs.rejection.identifier_falls.Goals as goal
 
-pub returns-then-i-eq0 : goal.returns-then-i-eq0
-returns-then-i-eq0 c = sym (falls-first _ _ c.if-i-eq0.true)
+pub returns-then-i-gt0 : goal.returns-then-i-gt0
+returns-then-i-gt0 c =
+    falls-later _ _ _ _ (λ e. omega arith) c.identifier.ensures.value c.identifier-then-i-gt0.ensures.value
 
-pub returns : goal.returns
-returns c =
-    falls-later _ _ _ _ c.if-i-eq0.false c.identifier.ensures.value c.identifier-2.ensures.value
+pub returns-else-i-gt0 : goal.returns-else-i-gt0
+returns-else-i-gt0 c = le-ltb 0 _ (omega arith) ∙ sym (falls-first _ _ (omega arith))

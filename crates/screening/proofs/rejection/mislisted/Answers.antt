@@ -1,44 +1,53 @@
-use Rattle.std.proofs.Common.{◌≡◌, sym, ap, ◌∙◌, arith}
+use Rattle.std.proofs.Common.{◌≡◌, sym, ap, ◌∙◌, not, eq-eqb, eqb-true, ⊎_elim, arith, rules, tests}
+use borrow.Author.Tests.{not-false}
 use Rattle.part.specs.declared.format.Form.{Form}
+use Rattle.part.specs.declared.format.Kind.TheVariants.{Several}
 use Rattle.part.specs.Format.{several_kind}
-use Rattle.part.specs.Record.{kind, observers}
+use Rattle.part.specs.Record.{kind, observer, observers}
+use Rattle.part.proofs.KindBytes.{kind_differs, kind_read}
+use Rattle.bounded.proofs.Search.{true_not_false}
+use Rattle.screening.specs.Rejections.{falls}
 use Rattle.screening.proofs.Rejections.{long, header_read, framed_by, no_list, too_few, too_many, last_list_test}
 use Rattle.screening.proofs.Rejections.{several_described}
+use Rattle.screening.proofs.Tests.{any_in_range}
 use Rattle.screening.proofs.rejection.mislisted.Goals as goal
-use Rattle.screening.proofs.rejection.mislisted.Goals.{After-form-form, Else-kind-ne-SEVERAL}
+use Rattle.screening.proofs.rejection.mislisted.Goals.{After-form-count, Else-ne}
 
 -- the kind is 2
-several : (c : Else-kind-ne-SEVERAL) → kind c.args.b.now ≡ several_kind
-several c = sym c.kind.ensures ∙ c.if-kind-ne-SEVERAL.false
+several : (c : Else-ne) → kind c.args.b.now ≡ several_kind
+several c =
+    let differs = kind_differs _ Several _ (c.ok.ensures.value ∙ kind_read _ c.try_from.result c.try_from.ensures) _ c.ne.ensures in
+    sym c.kind.ensures ∙ eqb-true _ _ (not-false _ (sym differs ∙ c.if-ne.false))
 
 -- it has so many observers
-counted : (c : After-form-form)
-    → c.form-form.result.observers ≡ observers c.args.b.now
-counted c = ap (λ (f : Form). f.observers) c.form-form.ensures.value
+counted : (c : After-form-count) → c.form-count.result.observers ≡ observers c.args.b.now
+counted c = ap (λ (f : Form). f.observers) c.form-count.ensures.value
 
 pub kind-requires : goal.kind-requires
 kind-requires c = long _ c.requires.long_enough
 
-pub returns-then-kind-ne-SEVERAL : goal.returns-then-kind-ne-SEVERAL
-returns-then-kind-ne-SEVERAL c = sym (no_list _ (λ q. c.if-kind-ne-SEVERAL.true (c.kind.ensures ∙ q)))
+pub returns-then-ne : goal.returns-then-ne
+returns-then-ne c =
+    let differs = kind_differs _ Several _ (c.ok.ensures.value ∙ kind_read _ c.try_from.result c.try_from.ensures) _ c.ne.ensures in
+    sym (no_list _ (λ q. true_not_false c.if-ne.true (differs ∙ ap not (eq-eqb _ _ (c.kind.ensures ∙ q)))))
 
-pub form-form-requires : goal.form-form-requires
-form-form-requires c = header_read _ c.requires.long_enough c.requires.length_right c.requires.in_range
+pub form-count-requires : goal.form-count-requires
+form-count-requires c = header_read _ c.requires.long_enough c.requires.length_right c.requires.in_range
 
 pub returns-then-count-lt-LEAST_LISTED : goal.returns-then-count-lt-LEAST_LISTED
 returns-then-count-lt-LEAST_LISTED c =
-    sym (too_few _ (several (goal.at.returns-then-count-lt-LEAST_LISTED c).Else-kind-ne-SEVERAL) (omega (arith, counted (goal.at.returns-then-count-lt-LEAST_LISTED c).After-form-form, c.if-count-lt-LEAST_LISTED.true)))
+    let kind = several (goal.at.returns-then-count-lt-LEAST_LISTED c).Else-ne in
+    let count = counted (goal.at.returns-then-count-lt-LEAST_LISTED c).After-form-count in
+    sym (⊎_elim (λ l. too_few _ kind (omega arith)) (λ l. too_many _ kind (omega arith) (omega arith)) c.then-count-lt-LEAST_LISTED.either)
 
-pub returns-then-count-gt-OBSERVERS : goal.returns-then-count-gt-OBSERVERS
-returns-then-count-gt-OBSERVERS c =
-    sym (too_many _ (several (goal.at.returns-then-count-gt-OBSERVERS c).Else-kind-ne-SEVERAL) (omega (arith, counted (goal.at.returns-then-count-gt-OBSERVERS c).After-form-form)) (omega (arith, counted (goal.at.returns-then-count-gt-OBSERVERS c).After-form-form)))
-
-pub some_fault-requires-clause-framed : goal.some_fault-requires-clause-framed
-some_fault-requires-clause-framed c =
-    framed_by _ c.requires.long_enough c.requires.length_right c.requires.in_range c.requires.b_value_4
-    (several_described _ (several (goal.at.some_fault-requires-clause-framed c).Else-kind-ne-SEVERAL) (omega (arith, counted (goal.at.some_fault-requires-clause-framed c).After-form-form)) (omega (arith, counted (goal.at.some_fault-requires-clause-framed c).After-form-form)))
+pub of-b-requires : goal.of-b-requires
+of-b-requires c =
+    let count = counted (goal.at.of-b-requires c).After-form-count in
+    framed_by _ c.requires.long_enough c.requires.length_right c.requires.in_range c.requires.size_right
+    (several_described _ (several (goal.at.of-b-requires c).Else-ne) (omega arith) (omega arith))
 
 pub returns : goal.returns
 returns c =
-    c.some_fault.ensures
-    ∙ sym (last_list_test _ (several (goal.at.returns c).Else-kind-ne-SEVERAL) (omega (arith, counted (goal.at.returns c).After-form-form)) (omega (arith, counted (goal.at.returns c).After-form-form)))
+    let count = counted (goal.at.returns c).After-form-count in
+    any_in_range (falls (observer c.args.b.now)) count _ _ c.any.result c.any.ensures.ran (λ x b q k. search (rules, tests))
+    ∙ sym (last_list_test _ (several (goal.at.returns c).Else-ne) (omega arith) (omega arith))

@@ -1,7 +1,8 @@
 use Rattle.std.proofs.Common.{ℕ, ◌≡◌, sym, ◌∙◌, List, drop}
 use Rattle.screening.specs.Answers.{rejection_of}
 use Rattle.screening.specs.Rejections.{frame_conditions, first_of}
-use Rattle.screening.proofs.Accepted.{skip, hit}
+use Rattle.screening.proofs.Accepted.{skip, hit, none-holds}
+use Rattle.screening.proofs.Rejections.{framed}
 use Rattle.screening.proofs.rejection.screen_frame.Goals as goal
 use Rattle.screening.proofs.rejection.screen_frame.Goals.{Else-mislisted, Else-out_of_range, Else-too_short, Else-wrong_kind, Else-wrong_length, Else-wrong_size}
 
@@ -34,30 +35,34 @@ past-6 : (c : Else-mislisted)
     c.args.b.now
 past-6 c = (((((skip _ _ _ cc) ∙ skip _ _ _ cc) ∙ skip _ _ _ cc) ∙ skip _ _ _ cc) ∙ skip _ _ _ cc) ∙ skip _ _ _ cc
 
-pub returns-then-too_short : goal.returns-then-too_short
+pub returns-then-too_short-clause-rejection : goal.returns-then-too_short-clause-rejection
 unfolding rejection_of
-returns-then-too_short c = sym (hit _ _ _ cc)
+returns-then-too_short-clause-rejection c = sym (hit _ _ _ cc)
 
-pub returns-then-wrong_length : goal.returns-then-wrong_length
+pub returns-then-wrong_length-clause-rejection : goal.returns-then-wrong_length-clause-rejection
 unfolding rejection_of
-returns-then-wrong_length c = sym (past-1 (goal.at.returns-then-wrong_length c).Else-too_short ∙ hit _ _ _ cc)
+returns-then-wrong_length-clause-rejection c = sym (past-1 (goal.at.returns-then-wrong_length-clause-rejection c).Else-too_short ∙ hit _ _ _ cc)
 
-pub returns-then-wrong_kind : goal.returns-then-wrong_kind
+pub returns-then-wrong_kind-clause-rejection : goal.returns-then-wrong_kind-clause-rejection
 unfolding rejection_of
-returns-then-wrong_kind c = sym (past-2 (goal.at.returns-then-wrong_kind c).Else-wrong_length ∙ hit _ _ _ cc)
+returns-then-wrong_kind-clause-rejection c = sym (past-2 (goal.at.returns-then-wrong_kind-clause-rejection c).Else-wrong_length ∙ hit _ _ _ cc)
 
-pub returns-then-out_of_range : goal.returns-then-out_of_range
+pub returns-then-out_of_range-clause-rejection : goal.returns-then-out_of_range-clause-rejection
 unfolding rejection_of
-returns-then-out_of_range c = sym (past-3 (goal.at.returns-then-out_of_range c).Else-wrong_kind ∙ hit _ _ _ cc)
+returns-then-out_of_range-clause-rejection c = sym (past-3 (goal.at.returns-then-out_of_range-clause-rejection c).Else-wrong_kind ∙ hit _ _ _ cc)
 
-pub returns-then-wrong_size : goal.returns-then-wrong_size
+pub returns-then-wrong_size-clause-rejection : goal.returns-then-wrong_size-clause-rejection
 unfolding rejection_of
-returns-then-wrong_size c = sym (past-4 (goal.at.returns-then-wrong_size c).Else-out_of_range ∙ hit _ _ _ cc)
+returns-then-wrong_size-clause-rejection c = sym (past-4 (goal.at.returns-then-wrong_size-clause-rejection c).Else-out_of_range ∙ hit _ _ _ cc)
 
-pub returns-then-mislisted : goal.returns-then-mislisted
+pub returns-then-mislisted-clause-rejection : goal.returns-then-mislisted-clause-rejection
 unfolding rejection_of
-returns-then-mislisted c = sym (past-5 (goal.at.returns-then-mislisted c).Else-wrong_size ∙ hit _ _ _ cc)
+returns-then-mislisted-clause-rejection c = sym (past-5 (goal.at.returns-then-mislisted-clause-rejection c).Else-wrong_size ∙ hit _ _ _ cc)
 
-pub returns : goal.returns
+pub of-requires : goal.of-requires
+unfolding first_of
+of-requires c = framed _ (none-holds frame_conditions c.args.b.now (past-6 c))
+
+pub returns-clause-rejection : goal.returns-clause-rejection
 unfolding first_of rejection_of
-returns c = sym (past-6 c)
+returns-clause-rejection c = sym (past-6 (goal.at.returns-clause-rejection c).Else-mislisted)

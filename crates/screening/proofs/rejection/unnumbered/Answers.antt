@@ -7,29 +7,28 @@ use Rattle.part.specs.Record.{classes_below}
 use Rattle.part.proofs.Fields.{classes_next}
 use Rattle.screening.proofs.rejection.unnumbered.Goals as goal
 
-pub loop-s-init : goal.loop-s-init
+pub loop-c-init : goal.loop-c-init
 unfolding any classes_below
-loop-s-init c = (omega arith, refl, refl)
+loop-c-init c = (refl, refl)
 
 pub returns-then-count-c : goal.returns-then-count-c
 unfolding unnumbered skips_at
 returns-then-count-c c =
     let column = c.args.column.now in
-    let s = c.loop-s.s in
+    let s = c.loop-c.c-index in
     scan_hit (skips_at column) _ s (omega arith) (lt-ltb (classes_below column s) (byte column s) (omega arith))
 
-pub loop-s-preserved : goal.loop-s-preserved
+pub loop-c-preserved : goal.loop-c-preserved
 unfolding skips_at
-loop-s-preserved c =
+loop-c-preserved c =
     let column = c.args.column.now in
-    let s = c.loop-s.s in
+    let s = c.loop-c.c-index in
     let next = classes_next column s in (
       omega arith,
-      omega arith,
-      any-more (skips_at column) s c.loop-s.invariant.2
+      any-more (skips_at column) s c.loop-c.invariant.1
           (le-ltb (classes_below column s) (byte column s) (omega arith)),
     )
 
 pub returns : goal.returns
 unfolding unnumbered
-returns c = scan_done _ _ _ (omega arith) c.loop-s.invariant.2
+returns c = scan_done _ _ _ (omega arith) c.loop-c.invariant.1

@@ -1,139 +1,107 @@
-use Rattle.std.proofs.Common.{◌≤◌, ◌≡◌, sym, ap, ◌∙◌, true, arith, length}
-use borrow.Author.Tests.{not-true, not-false}
-use Rattle.part.specs.Format.{max_record}
-use Rattle.restrictive.specs.Verdict.{verdict}
-use Rattle.store.specs.Answers.{answer_of}
-use Rattle.store.specs.Calls.{passes}
-use Rattle.store.specs.Found.{Ends}
-use Rattle.store.proofs.HookupLaws.{passes-pass, passing-fits, Copied, copied}
-use Rattle.store.proofs.HookupLaws.{hookup-no_end, hookup-no-first, hookup-no-second}
+use Rattle.std.proofs.Common.{◌≡◌, sym, ◌∙◌}
+use Rattle.std.specs.Prelude.{Some, slice_get}
+use Rattle.store.specs.Walk.{records}
+use Rattle.store.proofs.Told.{told, no_part}
+use Rattle.store.proofs.HookupLaws.{passes-pass, read_none, read_some, hookup-no_end, hookup-no_first, hookup-no_second}
 use Rattle.store.proofs.HookupLaws.{first-unfit, second-unfit, both_fit}
 use Rattle.store.proofs.call.hookup.Goals as goal
-use Rattle.store.proofs.call.hookup.Goals.{After-lay-p, After-lay-q, Else-not-passes, Else-not-passes-2, In-End}
+use Rattle.store.proofs.call.hookup.Goals.{then-not-passes-via-then-not-passes}
+use Rattle.store.proofs.call.hookup.Goals.{then-not-passes-via-else-not-passes+then-not-passes-2}
+use Rattle.store.proofs.call.hookup.Goals.{In_ok-first, In_ok-second}
 
--- What the walk has found; the first record passes, and so does the second.
-found : (c : In-End)
-    → Ends c.args.s.now c.in-End.n c.in-End.at
-found c = rw c.in-End.is at c.walk-found.ensures
+-- The first record stands there, and the second.
+first : (c : In_ok-first) → slice_get (records c.args.s.now) c.args.i ≡ Some c.in_ok-first.first.now
+first c =
+    read_some _ c.in_ok-end.ensures c.split_at_mut-front.ensures.front c.args.i c.record.result c.record.ensures
+    c.in_ok-first.ensures.ok_part
 
-first_passes : (c : Else-not-passes) → true ≡ passes c.record_at-first.result.now
-first_passes c = sym (not-false _ c.if-not-passes.false-raw) ∙ c.passes.ensures
+second : (c : In_ok-second) → slice_get (records c.args.s.now) c.args.j ≡ Some c.in_ok-second.second.now
+second c =
+    read_some _ c.in_ok-end.ensures c.split_at_mut-front.ensures.front c.args.j c.record-2.result c.record-2.ensures
+    c.in_ok-second.ensures.ok_part
 
-second-passes : (c : Else-not-passes-2) → true ≡ passes c.record_at-second.result.now
-second-passes c = sym (not-false _ c.if-not-passes-2.false-raw) ∙ c.passes-2.ensures
+pub returns-in_err-end-clause-result_value : goal.returns-in_err-end-clause-result_value
+returns-in_err-end-clause-result_value c =
+    told c.from_residual.result _ c.from_residual.ensures.1 ∙ (hookup-no_end _ _ _ c.in_err-end.ensures).0
 
--- Each of the two records fits an array.
-fits : (c : Else-not-passes-2)
-    → (length c.record_at-first.result.now ≤ max_record)
-    × (length c.record_at-second.result.now ≤ max_record)
-fits c = (passing-fits _ (sym (not-false _ c.if-not-passes.false-raw) ∙ c.passes.ensures), passing-fits _ (second-passes c))
+pub returns-in_err-end-clause-s_after : goal.returns-in_err-end-clause-s_after
+returns-in_err-end-clause-s_after c = (hookup-no_end _ _ _ c.in_err-end.ensures).1
 
-first-copy : (c : After-lay-p) → Copied c.record_at-first.result.now
-    c.lay-p.new.out c.lay-p.result
-first-copy c = copied c.lay-p.ensures (passing-fits _ (sym (not-false _ c.if-not-passes.false-raw) ∙ c.passes.ensures))
+pub returns-in_err-first-clause-result_value : goal.returns-in_err-first-clause-result_value
+returns-in_err-first-clause-result_value c =
+    told c.from_residual-in_err-first.result _ c.from_residual-in_err-first.ensures.1
+    ∙ no_part c.record.result c.in_err-first.ensures.value
+    ∙ (hookup-no_first _ _ _ c.in_ok-end.ensures
+    (read_none _ c.in_ok-end.ensures c.split_at_mut-front.ensures.front c.args.i c.record.result c.record.ensures
+    c.in_err-first.ensures.ok_part)).0
 
-second-copy : (c : After-lay-q) → Copied c.record_at-second.result.now
-    c.lay-q.new.out c.lay-q.result
-second-copy c = copied c.lay-q.ensures (passing-fits _ (sym (not-false _ c.if-not-passes-2.false-raw) ∙ c.passes-2.ensures))
+pub returns-in_err-first-clause-s_after : goal.returns-in_err-first-clause-s_after
+returns-in_err-first-clause-s_after c =
+    sym c.split_at_mut-front.ensures.value
+    ∙ (hookup-no_first _ _ _ c.in_ok-end.ensures
+    (read_none _ c.in_ok-end.ensures c.split_at_mut-front.ensures.front c.args.i c.record.result c.record.ensures
+    c.in_err-first.ensures.ok_part)).1
 
-pub returns-in_default-clause-result_value : goal.returns-in_default-clause-result_value
-unfolding answer_of
-returns-in_default-clause-result_value c =
-    (hookup-no_end _ _ _ (rw c.in_default.is at c.walk-found.ensures)).0
+pub returns-in_err-second-clause-result_value : goal.returns-in_err-second-clause-result_value
+returns-in_err-second-clause-result_value c =
+    told c.from_residual-in_err-second.result _ c.from_residual-in_err-second.ensures.1
+    ∙ no_part c.record-2.result c.in_err-second.ensures.value
+    ∙ (hookup-no_second _ _ _ c.in_ok-end.ensures (first (goal.at.returns-in_err-second-clause-result_value c).In_ok-first)
+    (read_none _ c.in_ok-end.ensures c.split_at_mut-front.ensures.front c.args.j c.record-2.result c.record-2.ensures
+    c.in_err-second.ensures.ok_part)).0
 
-pub returns-in_default-clause-s_after : goal.returns-in_default-clause-s_after
-unfolding answer_of
-returns-in_default-clause-s_after c =
-    (hookup-no_end _ _ _ (rw c.in_default.is at c.walk-found.ensures)).1
-
-pub returns-then-n-i-clause-result_value : goal.returns-then-n-i-clause-result_value
-unfolding answer_of
-returns-then-n-i-clause-result_value c =
-    (hookup-no-first _ _ _ (found (goal.at.returns-then-n-i-clause-result_value c).In-End) c.if-n-i.true).0
-
-pub returns-then-n-i-clause-s_after : goal.returns-then-n-i-clause-s_after
-unfolding answer_of
-returns-then-n-i-clause-s_after c =
-    (hookup-no-first _ _ _ (found (goal.at.returns-then-n-i-clause-s_after c).In-End) c.if-n-i.true).1
-
-pub returns-then-n-j-clause-result_value : goal.returns-then-n-j-clause-result_value
-unfolding answer_of
-returns-then-n-j-clause-result_value c =
-    (hookup-no-second _ _ _ (found (goal.at.returns-then-n-j-clause-result_value c).In-End) c.if-n-i.false c.if-n-j.true).0
-
-pub returns-then-n-j-clause-s_after : goal.returns-then-n-j-clause-s_after
-unfolding answer_of
-returns-then-n-j-clause-s_after c =
-    (hookup-no-second _ _ _ (found (goal.at.returns-then-n-j-clause-s_after c).In-End) c.if-n-i.false c.if-n-j.true).1
+pub returns-in_err-second-clause-s_after : goal.returns-in_err-second-clause-s_after
+returns-in_err-second-clause-s_after c =
+    sym c.split_at_mut-front.ensures.value
+    ∙ (hookup-no_second _ _ _ c.in_ok-end.ensures (first (goal.at.returns-in_err-second-clause-s_after c).In_ok-first)
+    (read_none _ c.in_ok-end.ensures c.split_at_mut-front.ensures.front c.args.j c.record-2.result c.record-2.ensures
+    c.in_err-second.ensures.ok_part)).1
 
 pub returns-then-not-passes-clause-result_value : goal.returns-then-not-passes-clause-result_value
-unfolding answer_of
 returns-then-not-passes-clause-result_value c =
-    (first-unfit _ _ _ (found (goal.at.returns-then-not-passes-clause-result_value c).In-End) c.if-n-i.false c.if-n-j.false
-    c.record_at-first.ensures
-    (sym (not-true _ c.if-not-passes.true-raw) ∙ c.passes.ensures)).0
+    let one = first (goal.at.returns-then-not-passes-clause-result_value c).In_ok-first in
+    let two = second (goal.at.returns-then-not-passes-clause-result_value c).In_ok-second in
+    elim c.then-not-passes.branch [
+      | then-not-passes-via-then-not-passes w ↦
+          (first-unfit _ _ _ c.in_ok-end.ensures one two (sym w.if-not-passes.true ∙ c.passes.ensures)).0
+      | then-not-passes-via-else-not-passes+then-not-passes-2 w ↦
+          (second-unfit _ _ _ c.in_ok-end.ensures one two (sym w.if-not-passes.false ∙ c.passes.ensures)
+          (sym w.if-not-passes-2.true ∙ w.passes-else-not-passes.ensures)).0
+    ]
 
 pub returns-then-not-passes-clause-s_after : goal.returns-then-not-passes-clause-s_after
-unfolding answer_of
 returns-then-not-passes-clause-s_after c =
-    (first-unfit _ _ _ (found (goal.at.returns-then-not-passes-clause-s_after c).In-End) c.if-n-i.false c.if-n-j.false
-    c.record_at-first.ensures
-    (sym (not-true _ c.if-not-passes.true-raw) ∙ c.passes.ensures)).1
-
-pub returns-then-not-passes-2-clause-result_value : goal.returns-then-not-passes-2-clause-result_value
-unfolding answer_of
-returns-then-not-passes-2-clause-result_value c =
-    (second-unfit _ _ _ (found (goal.at.returns-then-not-passes-2-clause-result_value c).In-End) c.if-n-i.false c.if-n-j.false
-    c.record_at-first.ensures
-    c.record_at-second.ensures (first_passes (goal.at.returns-then-not-passes-2-clause-result_value c).Else-not-passes)
-    (sym (not-true _ c.if-not-passes-2.true-raw) ∙ c.passes-2.ensures)).0
-
-pub returns-then-not-passes-2-clause-s_after : goal.returns-then-not-passes-2-clause-s_after
-unfolding answer_of
-returns-then-not-passes-2-clause-s_after c =
-    (second-unfit _ _ _ (found (goal.at.returns-then-not-passes-2-clause-s_after c).In-End) c.if-n-i.false c.if-n-j.false
-    c.record_at-first.ensures
-    c.record_at-second.ensures (first_passes (goal.at.returns-then-not-passes-2-clause-s_after c).Else-not-passes)
-    (sym (not-true _ c.if-not-passes-2.true-raw) ∙ c.passes-2.ensures)).1
-
-pub lay-p-requires : goal.lay-p-requires
-lay-p-requires c = omega (arith, fits (goal.at.lay-p-requires c).Else-not-passes-2)
-
-pub lay-q-requires : goal.lay-q-requires
-lay-q-requires c = omega (arith, fits (goal.at.lay-q-requires c).Else-not-passes-2)
-
-pub slice_bounds-a-end : goal.slice_bounds-a-end
-slice_bounds-a-end c = (first-copy (goal.at.slice_bounds-a-end c).After-lay-p).within
-
-pub slice_bounds-append_joined-end : goal.slice_bounds-append_joined-end
-slice_bounds-append_joined-end c = (first-copy (goal.at.slice_bounds-append_joined-end c).After-lay-p).long
-
-pub slice_bounds-b-end : goal.slice_bounds-b-end
-slice_bounds-b-end c = (second-copy (goal.at.slice_bounds-b-end c).After-lay-q).within
-
-pub slice_bounds-append_joined-end-2 : goal.slice_bounds-append_joined-end-2
-slice_bounds-append_joined-end-2 c = (second-copy (goal.at.slice_bounds-append_joined-end-2 c).After-lay-q).long
+    let one = first (goal.at.returns-then-not-passes-clause-s_after c).In_ok-first in
+    let two = second (goal.at.returns-then-not-passes-clause-s_after c).In_ok-second in
+    let same = sym c.split_at_mut-front.ensures.value in
+    elim c.then-not-passes.branch [
+      | then-not-passes-via-then-not-passes w ↦
+          w.s-is ∙ same ∙ (first-unfit _ _ _ c.in_ok-end.ensures one two (sym w.if-not-passes.true ∙ c.passes.ensures)).1
+      | then-not-passes-via-else-not-passes+then-not-passes-2 w ↦
+          w.s-is ∙ same
+          ∙ (second-unfit _ _ _ c.in_ok-end.ensures one two (sym w.if-not-passes.false ∙ c.passes.ensures)
+          (sym w.if-not-passes-2.true ∙ w.passes-else-not-passes.ensures)).1
+    ]
 
 pub append_joined-requires-clause-a_passes : goal.append_joined-requires-clause-a_passes
-append_joined-requires-clause-a_passes c =
-    ap verdict (first-copy (goal.at.append_joined-requires-clause-a_passes c).After-lay-p).same ∙ passes-pass _ (first_passes (goal.at.append_joined-requires-clause-a_passes c).Else-not-passes)
+append_joined-requires-clause-a_passes c = passes-pass _ (sym c.if-not-passes.false ∙ c.passes.ensures)
 
 pub append_joined-requires-clause-b_passes : goal.append_joined-requires-clause-b_passes
 append_joined-requires-clause-b_passes c =
-    ap verdict (second-copy (goal.at.append_joined-requires-clause-b_passes c).After-lay-q).same ∙ passes-pass _ (second-passes (goal.at.append_joined-requires-clause-b_passes c).Else-not-passes-2)
+    passes-pass _ (sym c.if-not-passes-2.false ∙ c.passes-else-not-passes.ensures)
 
 pub returns-clause-result_value : goal.returns-clause-result_value
 returns-clause-result_value c =
-    (both_fit _ _ _ (found (goal.at.returns-clause-result_value c).In-End) c.if-n-i.false c.if-n-j.false
-    c.record_at-first.ensures
-    c.record_at-second.ensures (first_passes (goal.at.returns-clause-result_value c).Else-not-passes) (second-passes (goal.at.returns-clause-result_value c).Else-not-passes-2)
-    (first-copy (goal.at.returns-clause-result_value c).After-lay-p).same (second-copy (goal.at.returns-clause-result_value c).After-lay-q).same
-    (c.append_joined.ensures.result_value, c.append_joined.ensures.s_after)).0
+    (both_fit _ _ _ c.in_ok-end.ensures (first (goal.at.returns-clause-result_value c).In_ok-first)
+    (second (goal.at.returns-clause-result_value c).In_ok-second) (sym c.if-not-passes.false ∙ c.passes.ensures)
+    c.split_at_mut-front.ensures.front c.split_at_mut-front.ensures.back
+    (sym c.if-not-passes-2.false ∙ c.passes-else-not-passes.ensures) _ _
+    (c.append_joined.ensures.result_value, c.append_joined.ensures.back_after)).0
 
 pub returns-clause-s_after : goal.returns-clause-s_after
 returns-clause-s_after c =
-    (both_fit _ _ _ (found (goal.at.returns-clause-s_after c).In-End) c.if-n-i.false c.if-n-j.false
-    c.record_at-first.ensures
-    c.record_at-second.ensures (first_passes (goal.at.returns-clause-s_after c).Else-not-passes) (second-passes (goal.at.returns-clause-s_after c).Else-not-passes-2)
-    (first-copy (goal.at.returns-clause-s_after c).After-lay-p).same (second-copy (goal.at.returns-clause-s_after c).After-lay-q).same
-    (c.append_joined.ensures.result_value, c.append_joined.ensures.s_after)).1
+    (both_fit _ _ _ c.in_ok-end.ensures (first (goal.at.returns-clause-s_after c).In_ok-first)
+    (second (goal.at.returns-clause-s_after c).In_ok-second) (sym c.if-not-passes.false ∙ c.passes.ensures)
+    c.split_at_mut-front.ensures.front c.split_at_mut-front.ensures.back
+    (sym c.if-not-passes-2.false ∙ c.passes-else-not-passes.ensures) _ _
+    (c.append_joined.ensures.result_value, c.append_joined.ensures.back_after)).1

@@ -1,16 +1,17 @@
-use Rattle.std.proofs.Common.{sym, ap, ◌∙◌}
-use Rattle.restrictive.specs.Answers.{verdict_of}
+use Rattle.std.proofs.Common.{◌≡◌, ℕ, List, Result, Ok, Err, is_ok, refl, ◌∙◌}
+use Rattle.restrictive.specs.declared.answer.Pass.{Pass}
+use Rattle.restrictive.specs.declared.answer.Failure.{Failure}
+use Rattle.restrictive.specs.declared.answer.Failure.TheVariants.{Refused, Breaks}
+use Rattle.restrictive.specs.Verdict.{verdict}
+use Rattle.restrictive.specs.Answers.{failure_of, verdict_of}
 use Rattle.store.specs.Calls.{passes}
 use Rattle.store.proofs.call.passes.Goals as goal
 
-pub returns-in-Pass : goal.returns-in-Pass
-unfolding passes verdict_of
-returns-in-Pass c = rw (sym c.check-report.ensures.verdict ∙ ap verdict_of c.in-Pass.is, passes)
+ok_passes : (r : Result Pass Failure) (b : List ℕ) → verdict_of r ≡ verdict b → is_ok r ≡ passes b
+unfolding passes verdict_of failure_of
+ok_passes (Ok p) b e = rw (← e, passes) refl
+ok_passes (Err (Refused k)) b e = rw (← e, passes) refl
+ok_passes (Err (Breaks f)) b e = rw (← e, passes) refl
 
-pub returns-in-Refused : goal.returns-in-Refused
-unfolding passes verdict_of
-returns-in-Refused c = rw (sym c.check-report.ensures.verdict ∙ ap verdict_of c.in-Refused.is, passes)
-
-pub returns-in-Break : goal.returns-in-Break
-unfolding passes verdict_of
-returns-in-Break c = rw (sym c.check-report.ensures.verdict ∙ ap verdict_of c.in-Break.is, passes)
+pub returns : goal.returns
+returns c = c.is_ok.ensures.value ∙ ok_passes _ _ c.check.ensures.verdict

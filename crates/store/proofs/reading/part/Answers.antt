@@ -1,20 +1,15 @@
 use Rattle.std.proofs.Common.{arith}
 use Rattle.store.specs.Walk.{records}
-use Rattle.store.specs.Found.{Ends}
 use Rattle.store.proofs.Readings.{part_none}
+use Rattle.store.proofs.Told.{endless}
 use Rattle.store.proofs.reading.part.Goals as goal
-use Rattle.store.proofs.reading.part.Goals.{In-End}
-
--- What the walk has found.
-found : (c : In-End)
-    → Ends c.args.s.now c.in-End.n c.in-End.field-1
-found c = rw c.in-End.is at c.walk-found.ensures
+use Rattle.store.proofs.reading.part.Goals.{in_default-via-in-Ok+else-i-end, in_default-via-in_default}
 
 pub returns-in_default : goal.returns-in_default
 unfolding records
 returns-in_default c =
-    part_none _ _
-    (rw (rw c.in_default.is at c.walk-found.ensures, records) (omega arith))
-
-pub returns-then-n-i : goal.returns-then-n-i
-returns-then-n-i c = part_none _ _ (omega (arith, (found (goal.at.returns-then-n-i c).In-End).many))
+    elim c.in_default.branch [
+      | in_default-via-in-Ok+else-i-end w ↦ part_none _ _ (omega (arith, w.in-Ok.ensures.many))
+      | in_default-via-in_default w ↦
+          part_none _ _ (rw (endless _ c.walk.result w.in_default.not-Ok c.walk.ensures, records) (omega arith))
+    ]

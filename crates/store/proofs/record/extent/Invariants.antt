@@ -1,9 +1,10 @@
-use Rattle.std.proofs.Common.{◌-◌, ◌≤◌}
-use Rattle.store.proofs.Steps.{Walked}
+use Rattle.std.proofs.Common.{◌≡◌, ◌+◌, length, take}
+use mathlib.Core.List.{flatten}
+use Rattle.store.specs.Leading.{leading}
 use Rattle.store.proofs.record.extent.Given as goal
 
-abbrev pub invariant-loop-k : goal.invariant-loop-k
-invariant-loop-k l = (l.k ≤ l.i) × Walked l.s l.at l.k
-
-abbrev pub decreases-loop-k : goal.decreases-loop-k
-decreases-loop-k l = l.i - l.k
+-- The records before it that are left make up for those that are passed.
+abbrev pub invariant-loop-before : goal.invariant-loop-before
+invariant-loop-before l =
+    l.place + length (flatten (take l.before-iterator.n (leading l.before-iterator.iter.rest.now)))
+    ≡ length (flatten (take l.i (leading l.s)))

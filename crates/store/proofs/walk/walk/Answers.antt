@@ -1,40 +1,43 @@
-use Rattle.std.proofs.Common.{◌+◌, ◌≡◌, sym, ap, ◌∙◌, arith, drop}
-use Rattle.store.specs.Walk.{record_of, front}
-use Rattle.store.specs.Found.{front_of}
-use Rattle.store.proofs.Fronts.{record-whole}
-use Rattle.store.proofs.Steps.{Walked, walked_none, walked_next, walked_end, walked_stuck}
+use Rattle.std.proofs.Common.{◌≡◌, ℕ, ◌-◌, List, take, drop, length, ap, sym, ◌∙◌, arith, length-drop}
+use lib.Seq.{take_all}
+use Rattle.store.specs.Leading.{ends_there}
+use Rattle.store.specs.Walk.{front}
+use Rattle.store.proofs.Leading.{length-first, length-none, length-leading, leading-within}
+use Rattle.store.proofs.Leading.{leading-ends, leading_endless}
 use Rattle.store.proofs.walk.walk.Goals as goal
-use Rattle.store.proofs.walk.walk.Goals.{In-Record}
 
--- The record that stands there, and the walk behind it.
-stood : (c : In-Record) → front (drop c.loop-size.at c.args.s.now) ≡ record_of c.in-Record.size
-unfolding front_of
-stood c = sym c.front-standing.ensures ∙ ap front_of c.in-Record.is
+-- The bytes from a place on.
+rest : (s : List ℕ) (at : ℕ) → take (length s - at) (drop at s) ≡ drop at s
+rest s at = take_all (length s - at) (drop at s) (omega (arith, length-drop at s))
 
-next : (c : In-Record) → Walked c.args.s.now
-    (c.loop-size.at + c.in-Record.size) (c.loop-size.n + 1)
-next c = walked_next _ _ _ _ c.loop-size.invariant (stood c)
+pub overflow_add-end : goal.overflow_add-end
+overflow_add-end c = omega (arith, (length-first c.in-Some.ensures.steps).0, length-leading c.args.s.now)
 
-pub loop-size-init : goal.loop-size-init
-loop-size-init c = walked_none _
+pub overflow_add-end-in-loop-record : goal.overflow_add-end-in-loop-record
+overflow_add-end-in-loop-record c = omega (arith, (length-first c.in-Some.ensures.steps).1, leading-within c.args.s.now)
 
-pub returns-in-End : goal.returns-in-End
-unfolding front_of
-returns-in-End c =
-    walked_end _ c.loop-size.at c.loop-size.n c.loop-size.invariant
-    (sym c.front-standing.ensures ∙ ap front_of c.in-End.is)
+pub loop-record-preserved : goal.loop-record-preserved
+loop-record-preserved c =
+    let one = length-first c.in-Some.ensures.steps in
+    (omega (arith, one.0), omega (arith, one.1))
 
-pub returns-in-Neither : goal.returns-in-Neither
-unfolding front_of
-returns-in-Neither c =
-    walked_stuck _ c.loop-size.at c.loop-size.n c.loop-size.invariant
-    (sym c.front-standing.ensures ∙ ap front_of c.in-Neither.is)
+pub slice_bounds-is_end-count : goal.slice_bounds-is_end-count
+slice_bounds-is_end-count c = omega (arith, (length-none c.in-None.ensures.steps.0).1, leading-within c.args.s.now)
 
-pub overflow_add-at : goal.overflow_add-at
-overflow_add-at c = omega (arith, (next c).within)
+pub slice_bounds-is_end-start : goal.slice_bounds-is_end-start
+slice_bounds-is_end-start c = omega (arith, (length-none c.in-None.ensures.steps.0).1, leading-within c.args.s.now)
 
-pub loop-size-smaller : goal.loop-size-smaller
-loop-size-smaller c = omega (arith, (record-whole _ _ (stood c)).size, (next c).within)
+pub returns-then-not-is_end : goal.returns-then-not-is_end
+returns-then-not-is_end c =
+    leading_endless c.args.s.now (omega (arith, (length-none c.in-None.ensures.steps.0).1))
+    (sym c.if-not-is_end.true
+    ∙ c.is_end.ensures
+    ∙ ap (λ (t : List ℕ). ends_there (front t)) (rest c.args.s.now c.loop-record.end.place))
 
-pub loop-size-preserved : goal.loop-size-preserved
-loop-size-preserved c = next c
+pub returns : goal.returns
+returns c =
+    leading-ends c.args.s.now (omega (arith, (length-none c.in-None.ensures.steps.0).1))
+    (omega (arith, (length-none c.in-None.ensures.steps.0).0))
+    (sym c.if-not-is_end.false
+    ∙ c.is_end.ensures
+    ∙ ap (λ (t : List ℕ). ends_there (front t)) (rest c.args.s.now c.loop-record.end.place))

@@ -1,27 +1,27 @@
-use Rattle.std.proofs.Common.{arith}
+use Rattle.std.proofs.Common.{rules, ap, length, arith}
 use Rattle.words.proofs.LaidLaws.{then, laid_start}
 use Rattle.transcript.specs.Lines.{part_line}
-use Rattle.transcript.proofs.Lines.{length-shown, laid_length}
+use Rattle.transcript.proofs.Lines.{length-shown}
 use Rattle.transcript.proofs.contents.part.Goals as goal
 
-pub lay-requires : goal.lay-requires
-lay-requires c =
-    let bytes = c.show-end.ensures in
+pub word-requires : goal.word-requires
+word-requires c =
     let size = length-shown c.args.bytes.now in
-    omega (arith, c.labelled-at.ensures.upper_bound, laid_length c.labelled-at.ensures.laid, bytes.behind, laid_length bytes, size)
+    omega (
+      arith,
+      c.show.ensures.laid.behind,
+      c.show.ensures.room,
+      c.labelled.ensures.upper_bound,
+      c.labelled.ensures.room,
+      c.over-line.ensures.at,
+      ap length c.over-line.ensures.out,
+    )
 
-pub returns-clause-value : goal.returns-clause-value
+pub returns : goal.returns
 unfolding part_line
-returns-clause-value c =
-    let bytes = c.show-end.ensures in
-    let end = c.lay.ensures in
+returns c =
+    let start = rw (c.over-line.ensures.out, c.over-line.ensures.at) at c.labelled.ensures.laid in
     let size = length-shown c.args.bytes.now in
-    (laid_start (then (then c.labelled-at.ensures.laid bytes) end) (omega (arith, c.labelled-at.ensures.upper_bound, bytes.behind, size, end.behind))).0
-
-pub returns-clause-out_after : goal.returns-clause-out_after
-unfolding part_line
-returns-clause-out_after c =
-    let bytes = c.show-end.ensures in
-    let end = c.lay.ensures in
-    let size = length-shown c.args.bytes.now in
-    (laid_start (then (then c.labelled-at.ensures.laid bytes) end) (omega (arith, c.labelled-at.ensures.upper_bound, bytes.behind, size, end.behind))).1
+    let line = laid_start (then (then start c.show.ensures.laid) c.word.ensures.laid) (omega arith) in
+    let after = line.1 in
+    record { value = line.0; out_after = search (rules, after) }

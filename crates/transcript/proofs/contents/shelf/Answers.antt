@@ -1,31 +1,27 @@
-use Rattle.std.proofs.Common.{arith}
+use Rattle.std.proofs.Common.{rules, ap, length, arith}
 use Rattle.words.proofs.LaidLaws.{then, laid_start}
 use Rattle.text.proofs.HexLaws.{length-hex}
 use Rattle.transcript.specs.Lines.{shelf_line}
-use Rattle.transcript.proofs.Lines.{laid_length}
 use Rattle.transcript.proofs.contents.shelf.Goals as goal
 
-pub lay-requires : goal.lay-requires
-lay-requires c =
-    let head = c.lay-at.ensures in
-    let bytes = c.hex-end.ensures in
+pub word-requires-2 : goal.word-requires-2
+word-requires-2 c =
     let size = length-hex c.args.bytes.now in
-    omega (arith, head.behind, laid_length head, bytes.behind, laid_length bytes, size)
+    omega (
+      arith,
+      c.hex.ensures.laid.behind,
+      c.hex.ensures.room,
+      c.word.ensures.laid.behind,
+      c.word.ensures.room,
+      c.over-line.ensures.at,
+      ap length c.over-line.ensures.out,
+    )
 
-pub returns-clause-value : goal.returns-clause-value
+pub returns : goal.returns
 unfolding shelf_line
-returns-clause-value c =
-    let head = c.lay-at.ensures in
-    let bytes = c.hex-end.ensures in
-    let end = c.lay.ensures in
+returns c =
+    let start = rw (c.over-line.ensures.out, c.over-line.ensures.at) at c.word.ensures.laid in
     let size = length-hex c.args.bytes.now in
-    (laid_start (then (then head bytes) end) (omega (arith, head.behind, bytes.behind, size, end.behind))).0
-
-pub returns-clause-out_after : goal.returns-clause-out_after
-unfolding shelf_line
-returns-clause-out_after c =
-    let head = c.lay-at.ensures in
-    let bytes = c.hex-end.ensures in
-    let end = c.lay.ensures in
-    let size = length-hex c.args.bytes.now in
-    (laid_start (then (then head bytes) end) (omega (arith, head.behind, bytes.behind, size, end.behind))).1
+    let line = laid_start (then (then start c.hex.ensures.laid) c.word-2.ensures.laid) (omega arith) in
+    let after = line.1 in
+    record { value = line.0; out_after = search (rules, after) }

@@ -1,4 +1,4 @@
-use Rattle.std.proofs.Common.{◌-◌, ◌≤◌, ◌≡◌, get_or}
+use Rattle.std.proofs.Common.{◌≡◌, get_or}
 use Rattle.bounded.specs.Search.{each}
 use Rattle.words.specs.Laid.{over}
 use Rattle.words.specs.LittleEndian.{digits}
@@ -6,7 +6,4 @@ use Rattle.words.proofs.le.put_words.Given as goal
 
 -- The numbers at the places below i are laid.
 abbrev pub invariant-loop-i : goal.invariant-loop-i
-invariant-loop-i l = (l.i ≤ 8) × (l.out ≡ over l.initial.out l.at (each l.i (λ k. digits 8 (get_or l.numbers k 0))))
-
-abbrev pub decreases-loop-i : goal.decreases-loop-i
-decreases-loop-i l = 8 - l.i
+invariant-loop-i l = l.out ≡ over l.initial.out l.at (each l.i (λ k. digits 8 (get_or l.numbers k 0)))

@@ -3,11 +3,11 @@ use Rattle.part.specs.Record.{classes_below}
 use Rattle.part.proofs.Fields.{classes_next}
 use Rattle.part.proofs.field.Part.classes.Goals as goal
 
-pub loop-s-init : goal.loop-s-init
+pub loop-c-init : goal.loop-c-init
 unfolding classes_below
-loop-s-init c = (omega arith, refl, omega arith)
+loop-c-init c = (refl, omega arith)
 
-pub loop-s-preserved : goal.loop-s-preserved
-loop-s-preserved c =
-    let next = classes_next c.args.column.now c.loop-s.s in
-    (omega arith, omega arith, omega arith)
+pub loop-c-preserved : goal.loop-c-preserved
+loop-c-preserved c =
+    let next = classes_next c.args.column.now c.loop-c.c-index in
+    (omega arith, omega arith)

@@ -1,30 +1,10 @@
-use Rattle.std.proofs.Common.{ℕ, ◌≡◌, refl, Bool, true, false, cond, eqb}
-use Rattle.part.specs.declared.format.Form.{Form}
-use Rattle.part.specs.Format.{several_kind, limited_kind, lists_at, header, form, one_observer, several_observers, limited_part}
+use Rattle.std.proofs.Common.{refl}
+use Rattle.part.specs.Format.{form}
+use Rattle.part.specs.declared.format.Kind.TheVariants.{Several, Limited}
+use Rattle.part.proofs.KindBytes.{kind_equals}
 use Rattle.part.proofs.format.Form.of.Goals as goal
-
--- The row of a kind, number by number.
-by_number : (several limited : Bool) (lead : ℕ) → ◌≡◌ {A = Form} (record {
-  observers = cond several lead 1;
-  levels = cond several lists_at header;
-  listed = cond several lead 0;
-  columns = cond several lead (cond limited 2 1);
-  finer = cond several 0 (cond limited 1 0);
-}) (cond several (several_observers lead) (cond limited limited_part one_observer))
-by_number true limited lead = refl
-by_number false true lead = refl
-by_number false false lead = refl
 
 pub returns : goal.returns
 unfolding form
-returns c =
-    let args = c.args in
-    rw (
-      c.choose-7.ensures,
-      c.choose-6.ensures,
-      c.choose-5.ensures,
-      c.choose-4.ensures,
-      c.choose-3.ensures,
-      c.choose-2.ensures,
-      c.choose.ensures,
-    ) (by_number (eqb args.kind several_kind) (eqb args.kind limited_kind) args.lead)
+returns c k e =
+    rw (c.choice.ensures, kind_equals k Several _ e _ c.eq.ensures, kind_equals k Limited _ e _ c.eq-2.ensures) refl

@@ -1,7 +1,0 @@
-use Rattle.join.proofs.HeadEntries.{entry_laid}
-use Rattle.join.proofs.entries.put_entry.Goals as goal
-
-pub returns : goal.returns
-returns c =
-    rw c.put16.ensures
-    (entry_laid _ _ _ _ _ _ _ (c.sort_of-event.ensures.kind_value, c.sort_of-event.ensures.level_value))

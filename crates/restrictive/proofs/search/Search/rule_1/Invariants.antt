@@ -1,0 +1,8 @@
+use Rattle.std.proofs.Common.{◌≡◌}
+use mathlib.Core.Option.{none}
+use Rattle.bounded.specs.Search.{first}
+use Rattle.restrictive.specs.Searched.{event_found}
+use Rattle.restrictive.proofs.search.Search.rule_1.Given as goal
+
+abbrev pub invariant-loop-event : goal.invariant-loop-event
+invariant-loop-event l = first l.event (event_found l.self 0) ≡ none
