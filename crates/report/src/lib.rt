@@ -3,12 +3,16 @@
 
 ghost use Rattle.std.specs.Prelude.{◌≡◌, ℕ, ◌++◌, ◌≤◌, length, take, drop};
 ghost use Rattle.screening.specs.Answers.{number_of};
-ghost use Rattle.restrictive.specs.Answers.{violation_of, verdict_of};
+ghost use Rattle.restrictive.specs.Answers.{verdict_of};
 ghost use Rattle.restrictive.specs.Verdict.{refused, breaks, verdict};
 ghost use Rattle.report.specs.Line.{line, judged_bytes, line_of};
+ghost use Rattle.report.specs.Told.{numbers_of, told_of};
 
+pub mod told;
+
+use crate::told::{Numbers, Told};
+use restrictive::Verdict;
 use restrictive::call::check;
-use restrictive::{Failure, Verdict, Violation};
 use screening::Rejection;
 use text::line::Line;
 use words::copy::lay;
@@ -49,23 +53,23 @@ pub fn break_line(rule: usize, event: usize, s: usize, t: usize, u: usize, out: 
 }
 
 // Writes the line of a break to the start of out, and answers its length. The rest of out stays.
-pub fn violation(v: Violation, out: &mut [u8]) -> usize
+pub fn violation(n: Numbers, out: &mut [u8]) -> usize
     requires { 130 ≤ length out.old }
-    ensures value { result ≡ length (line (breaks (violation_of v))) }
-    ensures out_after { out.new ≡ line (breaks (violation_of v)) ++ drop result out.old }
+    ensures value { result ≡ length (line (breaks (numbers_of n))) }
+    ensures out_after { out.new ≡ line (breaks (numbers_of n)) ++ drop result out.old }
 {
-    break_line(v.rule.number(), v.event, v.s, v.t, v.u, out)
+    break_line(n.rule, n.event, n.s, n.t, n.u, out)
 }
 
 // Writes the verdict's line to the start of out, and answers its length. The rest of out stays.
-pub fn line(v: Verdict, out: &mut [u8; LINE]) -> usize
-    ensures value { result ≡ length (line (verdict_of v)) }
-    ensures out_after { out.new ≡ line (verdict_of v) ++ drop result out.old }
+pub fn line(told: Told, out: &mut [u8; LINE]) -> usize
+    ensures value { result ≡ length (line (told_of told)) }
+    ensures out_after { out.new ≡ line (told_of told) ++ drop result out.old }
 {
-    match v {
-        Ok(_) => lay(b"pass\n", out, 0),
-        Err(Failure::Refused(r)) => refusal(r, out),
-        Err(Failure::Breaks(found)) => violation(found.violation, out),
+    match told {
+        Told::Pass => lay(b"pass\n", out, 0),
+        Told::Refused(r) => refusal(r, out),
+        Told::Break(n) => violation(n, out),
     }
 }
 
@@ -81,5 +85,5 @@ pub fn line_of(input: &[u8], out: &mut [u8; LINE]) -> usize
     ensures value { result ≡ length (line_of input.now) }
     ensures out_after { out.new ≡ line_of input.now ++ drop result out.old }
 {
-    line(judge(input), out)
+    line(Told::from(judge(input)), out)
 }

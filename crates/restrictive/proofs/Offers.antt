@@ -1,17 +1,17 @@
 -- The rules by their sets: where a rule is broken, in terms of what a state offers.
-use Prim.Native.Nat.{ℕ, zero, suc, ◌≤◌, ◌<◌}
+use Prim.Native.Nat.{ℕ, zero, suc, ◌+◌, ◌≤◌, ◌<◌}
 use mathlib.Core.Path.{◌≡◌, refl, sym, ap, ◌∙◌}
-use mathlib.Core.Bool.{Bool, true, false, not, ◌&&◌}
+use mathlib.Core.Bool.{Bool, true, false, not, ◌||◌, ◌&&◌, or-true, or-false}
 use mathlib.Core.List.{List}
 use mathlib.Core.Option.{none, some}
 use native.Mathlib.Decide.{dec_lt}
 use native.Mathlib.Omega.{arith}
-use mathlib.Core.Logic.{⊎_elim}
+use mathlib.Core.Logic.{◌↔◌, ⊎_elim}
 use lib.Dec.{eqb}
 use lib.ListN.{get_or}
-use borrow.Author.Tests.{eqb-true, eq-eqb}
+use borrow.Author.Tests.{eqb-true, eq-eqb, ne_eqb, not-true}
 use Rattle.bounded.specs.Search.{any, first, when}
-use Rattle.bounded.proofs.Search.{all_at, all_intro, any_found, any_none, first-nothing, first_hit}
+use Rattle.bounded.proofs.Search.{all_at, all_intro, any_found, any_next, any_none, first-nothing, first_hit}
 use Rattle.bounded.proofs.Search.{same_truth, is_false, is_true, true_not_false, imp_elim, imp_intro, not_refuted}
 use Rattle.bounded.proofs.Search.{true_or_false, and_right}
 use Rattle.machine.specs.Rules.{Rule, rule_1, rule_2, rule_3, rule_4, rule_5}
@@ -26,7 +26,7 @@ use Rattle.relations.specs.Sets.{place_of}
 use Rattle.restrictive.specs.declared.answer.Case.{Case}
 use Rattle.restrictive.specs.Tests.{asks, answers, broken}
 use Rattle.restrictive.specs.Verdict.{Violation, violation_at, state_violation, event_violation, rule_violation}
-use Rattle.restrictive.specs.Sets.{led_to, reached, offer, beside, permits, Beside, Judgeable, Asked}
+use Rattle.restrictive.specs.Sets.{Enabled, led_to, reached, offer, beside, permits, Beside, Judgeable, Asked}
 use Rattle.restrictive.specs.Sets.{Offers}
 use Rattle.words.specs.Sets.{bit, intersection}
 use Rattle.words.proofs.Sets.{bit-intersection, bit_zero, all-below}
@@ -252,6 +252,28 @@ broken_by_set b o k i s t u offers h l a offering hu =
     ∙ ap (λ (p : Bool). same_class (beside o (rule_at k)) u s && not p) (sym (offering u hu (o.class t)))
 
 -- ---- rule 1: a state with no step
+
+module _ (b : List ℕ) (i : ℕ) where
+  abbrev pub without-step : ℕ → Bool
+  without-step s = eqb (row b i s) 0
+
+  -- A search for one, a state further.
+  pub stuck_here : (s : ℕ) → row b i s ≡ 0 → true ≡ any (s + 1) without-step
+  stuck_here s e =
+      sym (any_next _ s ∙ ap (λ (p : Bool). any s without-step || p) (eq-eqb _ _ e) ∙ or-true (any s without-step))
+
+  pub stuck_before : (s : ℕ) → (row b i s ≡ 0 → ⊥) → any s without-step ≡ any (s + 1) without-step
+  stuck_before s d = sym (any_next _ s ∙ ap (λ (p : Bool). any s without-step || p) (ne_eqb _ _ d) ∙ or-false _)
+
+  pub enabled-all : (s : ℕ) (stuck : Bool) → s ≡ states b → stuck ≡ any s without-step
+      → (not stuck ≡ true) ↔ Enabled b i
+  enabled-all s stuck q e = (
+    λ p u h z. true_not_false (eq-eqb _ 0 z) (any_none _ s (sym e ∙ not-true _ p) u (omega arith)),
+    λ all.
+        ap not (e ∙ is_false _ (λ t.
+        let w = any_found s _ t in
+        all w.0 (omega (arith, w.1)) (eqb-true _ 0 w.2))),
+  )
 
 module _ (b : List ℕ) (o : Observer) (i s : ℕ) (speaks : concerns (rule_at 0) (role_at b o.level i) ≡ true) where
   broken_stepless : (t u : ℕ) → broken b o (rule_at 0) i s t u ≡ not (any (states b) (leads b i s))

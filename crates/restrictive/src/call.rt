@@ -35,13 +35,18 @@ fn for_observer(accepted: Screened, o: usize) -> Result<usize, Break>
     search.violation_for()
 }
 
-// The first violation of an accepted record, observer by observer. Where there is none, the states taken up are those of the first.
+// The first violation of an accepted record, observer by observer. Where there is none, the states taken up are those of the first. The
+// call stands once: with another for the first observer it is not compiled into its caller, and Check of one state for four observers took
+// more than twice as long.
 fn by_observers(accepted: Screened) -> Result<usize, Break>
     ensures { FindingIn accepted.entry.record.bytes.now result }
 {
-    let taken = for_observer(accepted, 0)?;
-    for o in 1..accepted.record.observers() {
-        for_observer(accepted, o)?;
+    let mut taken = 0;
+    for o in 0..accepted.record.observers() {
+        let states = for_observer(accepted, o)?;
+        if o == 0 {
+            taken = states;
+        }
     }
     Ok(taken)
 }

@@ -34,6 +34,14 @@ fn counted(found: Result<(), Violation>, taken: usize) -> Result<usize, Break>
     }
 }
 
+// Room for what is made anew for each event: what it leads to, and the classes that the states offer. It is lent, so that it is not cleared
+// for each rule.
+#[derive(Drop)]
+struct Room {
+    scratch: [u64; 64],
+    offers: [u64; 64],
+}
+
 impl<'a> Search<'a> {
     // The first violation in a case of one of the rules 2 to 5.
     fn case_violation(
@@ -157,6 +165,7 @@ impl<'a> Search<'a> {
         concerned: u64,
         table: &[u64; 64],
         closure: Option<&[u64; 64]>,
+        room: &mut Room,
     ) -> Result<(), Violation>
         requires le_rule { (2 ≤ place_of rule) × Beside (place_of rule) self.now.columns.column.classes.now self.now.columns.fine.classes.now }
         requires concerned { Concerned self.now.b.bytes.now self.now.observer (place_of rule) concerned }
@@ -164,20 +173,18 @@ impl<'a> Search<'a> {
         requires offered_silently { IfSome closure (λ c. OfferedSilently self.now.b.bytes.now self.now.observer (byte self.now.columns.column.classes.now) (place_of rule) c.now table.now) }
         ensures { found_of result ≡ rule_found self.now (place_of rule) }
     {
-        let mut scratch = set::empties();
-        let mut offers = set::empties();
         for event in 0..self.b.events() {
             if set::contains(concerned, event) {
                 let case = Case { rule, event };
-                self.put_offers(&mut offers, case, table, closure, &mut scratch);
-                self.by_offers(case, &offers, &mut scratch)?;
+                self.put_offers(&mut room.offers, case, table, closure, &mut room.scratch);
+                self.by_offers(case, &room.offers, &mut room.scratch)?;
             }
         }
         Ok(())
     }
 
     // Rule 3, for the low inputs and the class of each state: it asks nothing of the fine classes.
-    fn rule_3(&self, inputs: u64, labels: &[u64; 64]) -> Result<(), Violation>
+    fn rule_3(&self, inputs: u64, labels: &[u64; 64], room: &mut Room) -> Result<(), Violation>
         requires concerned { Concerned self.now.b.bytes.now self.now.observer 2 inputs }
         requires class_of { ClassOf (states self.now.b.bytes.now) (byte self.now.columns.column.classes.now) labels.now }
         ensures { found_of result ≡ rule_found self.now 2 }
@@ -187,21 +194,20 @@ impl<'a> Search<'a> {
             observer: self.observer,
             columns: self.columns.coarse(),
         };
-        coarse.by_event(Rule::LowInputs, inputs, labels, None)
+        coarse.by_event(Rule::LowInputs, inputs, labels, None, room)
     }
 
     // Rule 4, with the classes that silent steps lead to: none where the states of a fine class reach the same.
-    fn rule_4(&self, silent: u64, met: &[u64; 64]) -> Result<(), Violation>
+    fn rule_4(&self, silent: u64, met: &[u64; 64], scratch: &mut [u64; 64]) -> Result<(), Violation>
         requires concerned { Concerned self.now.b.bytes.now self.now.observer 3 silent }
         requires rows { Rows (states self.now.b.bytes.now) met.now (reached self.now.b.bytes.now self.now.observer (byte self.now.columns.column.classes.now)) }
         ensures { found_of result ≡ rule_found self.now 3 }
     {
-        let mut scratch = set::empties();
-        if self.columns.fine.classwise_equal(met, &mut scratch) {
+        if self.columns.fine.classwise_equal(met, scratch) {
             return Ok(());
         }
-        self.columns.put_offered_states(&mut scratch, met);
-        self.same_for_events(Rule::SilentEvents, silent, &scratch, met)
+        self.columns.put_offered_states(scratch, met);
+        self.same_for_events(Rule::SilentEvents, silent, scratch, met)
     }
 
     // Rules 4 and 5, where there are silent events, with the closure of each state.
@@ -210,6 +216,7 @@ impl<'a> Search<'a> {
         roles: &Roles,
         labels: &[u64; 64],
         closure: &[u64; 64],
+        room: &mut Room,
     ) -> Result<(), Violation>
         requires roles { RolesOf self.now.b.bytes.now self.now.observer roles.now }
         requires class_of { ClassOf (states self.now.b.bytes.now) (byte self.now.columns.column.classes.now) labels.now }
@@ -218,25 +225,36 @@ impl<'a> Search<'a> {
         ensures { found_of result ≡ violation_for self.now.b.bytes.now (observer_in self.now) }
     {
         let met = set::gather_each(self.columns.column.classes.len(), closure, labels);
-        self.rule_4(roles.silent_events, &met)?;
-        self.by_event(Rule::LowOutputs, roles.low_outputs, &met, Some(closure))
+        self.rule_4(roles.silent_events, &met, &mut room.scratch)?;
+        self.by_event(
+            Rule::LowOutputs,
+            roles.low_outputs,
+            &met,
+            Some(closure),
+            room,
+        )
     }
 
     // Rules 4 and 5, with the states that are taken up. Without silent events rule 4 asks nothing, rule 5 asks for the event alone, and each
     // state is alone in its closure.
-    fn rules_from_4(&self, roles: &Roles, labels: &[u64; 64]) -> Result<usize, Break>
+    fn rules_from_4(
+        &self,
+        roles: &Roles,
+        labels: &[u64; 64],
+        room: &mut Room,
+    ) -> Result<usize, Break>
         requires roles { RolesOf self.now.b.bytes.now self.now.observer roles.now }
         requires class_of { ClassOf (states self.now.b.bytes.now) (byte self.now.columns.column.classes.now) labels.now }
         requires earlier_rules_hold { first 3 (rule_found self.now) ≡ none }
         ensures { FindingFor self.now.b.bytes.now (observer_in self.now) result }
     {
         if roles.silent_events == 0 {
-            let found = self.by_event(Rule::LowOutputs, roles.low_outputs, labels, None);
+            let found = self.by_event(Rule::LowOutputs, roles.low_outputs, labels, None, room);
             return counted(found, self.columns.column.classes.len());
         }
         let closure = closures(self.b, roles.silent_events);
         counted(
-            self.with_closures(roles, labels, &closure.sets),
+            self.with_closures(roles, labels, &closure.sets, room),
             closure.sizes,
         )
     }
@@ -256,7 +274,11 @@ impl<'a> Search<'a> {
             return Ok(closure_sizes(self.b, roles.silent_events));
         }
         let labels = self.columns.column.class_of();
-        self.rule_3(roles.low_inputs, &labels)?;
-        self.rules_from_4(&roles, &labels)
+        let mut room = Room {
+            scratch: set::empties(),
+            offers: set::empties(),
+        };
+        self.rule_3(roles.low_inputs, &labels, &mut room)?;
+        self.rules_from_4(&roles, &labels, &mut room)
     }
 }

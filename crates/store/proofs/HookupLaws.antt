@@ -6,15 +6,10 @@ use mathlib.Core.List.{List, [], ◌++◌, flatten}
 use mathlib.Core.Option as math
 use mathlib.Core.Option.{none, some}
 use native.Mathlib.Nat.{add-zero, zero-add}
-use native.Mathlib.Decide.{dec_lt}
 use native.Mathlib.Omega.{arith}
-use lib.Dec.{leb}
+use native.Mathlib.Decide.{dec_lt}
 use lib.ListN.{length, take, drop, get_or, length-drop, take-append-drop}
 use borrow.Author.Tests.{lt-ltb, le-ltb, le-leb, lt-leb}
-use Rattle.std.specs.Prelude.{Option, Some, None, slice_get}
-use Rattle.std.specs.Option.{option_copied}
-use Rattle.std.specs.Borrow.{Bor}
-use Rattle.std.proofs.lemmas.Option.{slice_get-get_or, slice_get_past, get_or_from_slice_get}
 use Rattle.bounded.proofs.Search.{true_not_false}
 use Rattle.words.specs.Laid.{over}
 use Rattle.words.proofs.LaidLaws.{over-append, over-part}
@@ -25,6 +20,7 @@ use Rattle.store.specs.Answer as answer
 use Rattle.store.specs.Answer.{obstacle_answer}
 use Rattle.store.specs.Walk.{walk, records}
 use Rattle.store.specs.Leading.{leading}
+use Rattle.store.specs.Reading.{part}
 use Rattle.store.proofs.Leading.{leading-before}
 use Rattle.store.specs.Found.{Ends, append_behind, joined_behind}
 use Rattle.store.specs.Calls.{end_bytes, Left, append, append_joined, passes, hookup_of, hookup}
@@ -112,16 +108,16 @@ module _ (s : List ℕ) {n at : ℕ} (w : Ends s n at) where
 
 -- ---- a record that is read before the end record
 
-module _ (s : List ℕ) {n at : ℕ} (w : Ends s n at) {f : List ℕ} (before : f ≡ take at s) (k : ℕ)
-    (r : Option (Bor (List ℕ))) (e : option_copied r ≡ slice_get (leading f) k) where
-  there : option_copied r ≡ slice_get (records s) k
-  there = e ∙ ap (λ (rs : List (List ℕ)). slice_get rs k) (ap leading before ∙ leading-before s w)
+module _ (s : List ℕ) {n at : ℕ} (w : Ends s n at) {f : List ℕ} (before : f ≡ take at s) (k : ℕ) where
+  there : leading f ≡ records s
+  there = ap leading before ∙ leading-before s w
 
-  pub read_none : r ≡ None → slice_get (records s) k ≡ None
-  read_none q = sym there ∙ ap option_copied q
+  pub stands_before : k < n → k < length (leading f)
+  stands_before l = rw there (omega (arith, w.many))
 
-  pub read_some : {a : Bor (List ℕ)} → r ≡ Some a → slice_get (records s) k ≡ Some a.now
-  read_some q = sym there ∙ ap option_copied q
+  pub reads_part : {r : List ℕ} → r ≡ get_or (leading f) k [] → r ≡ part s k
+  unfolding part
+  reads_part e = e ∙ ap (λ (rs : List (List ℕ)). get_or rs k []) there
 
 -- ---- Hookup
 
@@ -131,44 +127,43 @@ module _ (s : List ℕ) (i j : ℕ) where
   hookup-no_end e = rw (e, hookup) (refl, refl)
 
   module _ {n at : ℕ} (w : Ends s n at) where
-    -- Record k is not there, or has these bytes.
-    past : (k : ℕ) → slice_get (records s) k ≡ None → leb (length (records s)) k ≡ true
-    past k e = elim (dec_lt k (length (records s))) [
-      | yes l ↦ let there = slice_get-get_or (records s) k [] l in absurd (cc)
-      | no l ↦ le-leb _ _ (omega arith)
-    ]
-
-    pub hookup-no_first : slice_get (records s) i ≡ None → Leaves (hookup s i j) (answer.refused 13) s
+    pub hookup-no-first : n ≤ i → Leaves (hookup s i j) (answer.refused 13) s
     unfolding hookup
-    hookup-no_first e = rw (w.ends, hookup, past i e) (refl, refl)
+    hookup-no-first h = rw (w.ends, hookup, le-leb (length (records s)) i (omega (arith, w.many))) (refl, refl)
 
-    module _ {a : List ℕ} (p : slice_get (records s) i ≡ Some a) where
-      inside : (k : ℕ) {r : List ℕ} → slice_get (records s) k ≡ Some r
-          → (leb (length (records s)) k ≡ false) × (get_or (records s) k [] ≡ r)
-      inside k {r} e =
-          elim (dec_lt k (length (records s))) [
-            | yes l ↦ (lt-leb _ _ l, get_or_from_slice_get (records s) k r [] e)
-            | no l ↦ let gone = slice_get_past (records s) k (omega arith) in absurd (cc)
-          ]
+    pub hookup-no-second : i < n → n ≤ j → Leaves (hookup s i j) (answer.refused 13) s
+    unfolding hookup
+    hookup-no-second l h =
+        rw (
+          w.ends,
+          hookup,
+          lt-leb (length (records s)) i (omega (arith, w.many)),
+          le-leb (length (records s)) j (omega (arith, w.many)),
+        )
+        (refl, refl)
 
-      pub hookup-no_second : slice_get (records s) j ≡ None → Leaves (hookup s i j) (answer.refused 13) s
-      unfolding hookup
-      hookup-no_second e = rw (w.ends, hookup, (inside i p).0, past j e) (refl, refl)
+    module _ (l : i < n) (m : j < n) where
+      both_parts : hookup s i j ≡ hookup_of s (records s) (part s i) (part s j)
+      unfolding hookup part
+      both_parts =
+          rw (
+            w.ends,
+            hookup,
+            lt-leb (length (records s)) i (omega (arith, w.many)),
+            lt-leb (length (records s)) j (omega (arith, w.many)),
+          )
+          refl
 
-      module _ {b : List ℕ} (q : slice_get (records s) j ≡ Some b) where
-        both_parts : hookup s i j ≡ hookup_of s (records s) a b
-        unfolding hookup
-        both_parts =
-            rw (w.ends, hookup, (inside i p).0, (inside j q).0, (inside i p).1, (inside j q).1) refl
-
+      -- The bytes of the two records are a and b.
+      module _ {a : List ℕ} (p : a ≡ part s i) where
         pub first-unfit : false ≡ passes a → Leaves (hookup s i j) (answer.refused 14) s
         unfolding hookup_of
-        first-unfit f = rw (both_parts, hookup_of, ← f) (refl, refl)
+        first-unfit f = rw (both_parts, ← p, hookup_of, ← f) (refl, refl)
 
-        module _ (f : true ≡ passes a) where
+        module _ {b : List ℕ} (q : b ≡ part s j) (f : true ≡ passes a) where
           pub second-unfit : false ≡ passes b → Leaves (hookup s i j) (answer.refused 14) s
           unfolding hookup_of
-          second-unfit g = rw (both_parts, hookup_of, ← f, ← g) (refl, refl)
+          second-unfit g = rw (both_parts, ← p, ← q, hookup_of, ← f, ← g) (refl, refl)
 
           -- What is left before the end record, and from there on.
           pub both_fit : {front back : List ℕ} → front ≡ take at s → back ≡ drop at s → true ≡ passes b
@@ -177,4 +172,4 @@ module _ (s : List ℕ) (i j : ℕ) where
               → Leaves (hookup s i j) x (front ++ t)
           unfolding hookup_of
           both_fit u v g x t h =
-              rw (both_parts, hookup_of, ← f, ← g, u) (joined-whole s w a b (rw v at h))
+              rw (both_parts, ← p, ← q, hookup_of, ← f, ← g, u) (joined-whole s w a b (rw v at h))

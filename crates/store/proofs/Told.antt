@@ -1,10 +1,9 @@
 -- What a call answers at an exit of `?`, and what is left of a part that is read.
-use Prim.Native.Nat.{ℕ}
+use Prim.Native.Nat.{ℕ, ◌<◌}
 use mathlib.Core.List.{List}
 use mathlib.Core.Path.{◌≡◌, refl, ap}
 use Rattle.std.specs.Prelude.{Option, Some, None, IsSome, Result, Ok, Err, IsErrAnd}
-use Rattle.std.specs.Option.{option_copied}
-use Rattle.std.specs.Option.{ok_or}
+use Rattle.std.specs.Iterator.{YieldsFirstRef}
 use mathlib.Core.Option.{none}
 use Rattle.store.specs.declared.answer.Refusal.TheVariants.{NoEnd, NoPart, Unfit, NoRoom, Rejected, Breaks}
 use Rattle.store.specs.declared.answer.Refusal.TheVariants.{ObserversDiffer, Clash, TooLarge}
@@ -13,6 +12,10 @@ use Rattle.store.specs.declared.found.NoEnd as found
 use Rattle.store.specs.Answer.{refused, number_of, obstacle_answer}
 use Rattle.store.specs.Found.{Finds}
 use Rattle.store.specs.Walk.{walk}
+use Rattle.store.specs.Leading.{leading}
+use Rattle.store.specs.declared.records.Records.{Records}
+use native.Mathlib.Omega.{arith}
+use lib.ListN.{length}
 use Rattle.std.specs.Borrow.{Bor}
 use Rattle.store.specs.declared.answer.Refusal.{Refusal}
 use Rattle.restrictive.specs.declared.answer.Violation.{Violation}
@@ -36,14 +39,13 @@ pub told-failure : (r : Result ℕ Refusal) (f : Failure) → IsErrAnd r (λ e. 
 told-failure (Ok n) f h = absurd h
 told-failure (Err e) f h = h
 
--- A part that is there.
-pub copied_some : (r : Option (Bor (List ℕ))) {x : List ℕ} → option_copied r ≡ Some x → IsSome r
-copied_some (Some a) e = refl
-copied_some None e = absurd (cc)
-
-pub no_part : (r : Option (Bor (List ℕ))) {d : Refusal} → Err d ≡ ok_or r NoPart → refusal_of d ≡ refused 13
-no_part (Some a) e = absurd (cc)
-no_part None {d} e = let is : d ≡ NoPart = cc in ap refusal_of is
+-- A record that comes next, where one is left.
+pub next_there : (before after : Records) (r : Option (Bor (List ℕ)))
+    → YieldsFirstRef (λ (x : Records). leading x.rest.now) before r after
+    → 0 < length (leading before.rest.now)
+    → IsSome r
+next_there before after (Some x) h l = refl
+next_there before after None h l = absurd (omega (arith, ap length h.0))
 
 -- What a walk says that ends without an end record.
 pub endless : (s : List ℕ) (r : Result End found.NoEnd) → ((e : End) → r ≡ Ok e → ⊥) → Finds r s → walk s ≡ none

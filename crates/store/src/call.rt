@@ -48,12 +48,19 @@ pub fn hookup(s: &mut [u8], i: usize, j: usize) -> Result<usize, Refusal>
     ensures s_after { s.new ≡ (hookup s.old i j).shelf }
 {
     let end = walk(s)?;
+    if end.records <= i || end.records <= j {
+        return Err(Refusal::NoPart);
+    }
     let (front, back) = s.split_at_mut(end.place);
     let parts = &front[..];
-    let first = record(parts, i).ok_or(Refusal::NoPart)?;
-    let second = record(parts, j).ok_or(Refusal::NoPart)?;
-    if !passes(first) || !passes(second) {
+    let first = record(parts, i);
+    if !passes(first) {
         return Err(Refusal::Unfit);
     }
-    append_joined(back, end.records, first, second)
+    let second = record(parts, j);
+    if !passes(second) {
+        Err(Refusal::Unfit)
+    } else {
+        append_joined(back, end.records, first, second)
+    }
 }

@@ -104,3 +104,7 @@ pub decimal_same : (n : ℕ) → n < 2 ^ 64 → std.decimal n ≡ decimal n
 decimal_same n h =
     decimal_by_steps (λ (n : ℕ) (ds : List ℕ). ds ≡ decimal n) (λ n l. ap (λ (k : ℕ). (48 + k) ∷ []) (sym (mod-eq_of_lt l)) ∙ sym (decimal_one n l))
     (λ n ds l e. ap (λ (ds : List ℕ). ds ++ (last_digit n ∷ [])) e ∙ sym (decimal-more n l)) n h
+
+-- The same of a number that is n.
+pub decimal_of : (m n : ℕ) → m < 2 ^ 64 → m ≡ n → std.decimal m ≡ decimal n
+decimal_of m n h e = decimal_same m h ∙ ap decimal e

@@ -1,3 +1,4 @@
 pub mod Lines
+pub mod Told
 pub mod Turn
 pub mod Examples

@@ -3,4 +3,5 @@
 
 pub mod answer;
 pub mod contents;
+pub mod told;
 pub mod turn;

@@ -5,6 +5,7 @@ ghost use Rattle.transcript.specs.Turn.{turn};
 
 use crate::answer::line;
 use crate::contents;
+use crate::told::Told;
 use batch::perform::perform;
 use script::operation::{Call, Operation, Stop};
 use store::reading::{count, part};
@@ -17,7 +18,7 @@ fn called(call: Call<'_>, shelf: &mut [u8], out: &mut [u8]) -> usize
     ensures out_after { out.new ≡ (turn (operation_of_call call.entry) shelf.old).line ++ drop result out.old }
     ensures shelf_after { shelf.new ≡ (turn (operation_of_call call.entry) shelf.old).shelf }
 {
-    let a = perform(call, shelf);
+    let a = Told::from(perform(call, shelf));
     match call {
         Call::Clear => line(b"", a, out),
         Call::Load(_) => line(b"part ", a, out),
@@ -34,7 +35,7 @@ fn done(operation: Operation<'_>, shelf: &mut [u8], out: &mut [u8]) -> usize
 {
     match operation {
         Operation::Call(call) => called(call, shelf, out),
-        Operation::Count => line(b"count ", count(shelf), out),
+        Operation::Count => line(b"count ", Told::from(count(shelf)), out),
         Operation::Part(i) => contents::part(part(shelf, i), out),
     }
 }

@@ -5,8 +5,8 @@ use mathlib.Core.List.{List, [], ◌∷◌, ◌++◌, append_assoc}
 use native.Mathlib.Nat.{ne_of_lt, zero-add, add-zero, le-add_right}
 use native.Mathlib.Numerals.{add-one}
 use native.Mathlib.Omega.{arith}
-use lib.ListN.{length, take, drop, set, length-append, take-append-drop}
-use lib.Seq.{sets, sets-eq, length-sets, set_comm, take_at, drop_at, length-take-le, take-set-le}
+use lib.ListN.{length, get_or, take, drop, set, length-append, drop_of_length-le, take-append-drop}
+use lib.Seq.{sets, sets-eq, length-sets, set_comm, drop-cons, take_at, drop_at, length-take-le, take-set-le}
 use lib.Seq.{drop-set-add, drop-drop}
 use Rattle.bounded.specs.Search.{each}
 use Rattle.words.specs.LittleEndian.{digits}
@@ -79,6 +79,18 @@ over-digits out at j k v =
     ∙ ap (over out at) (sym (digits-split j k v))
 
 -- ---- the turns of the loops
+
+-- A word, from its first byte on: one byte more.
+pub word_turn : (out bytes : List ℕ) (at i : ℕ) → i < length bytes
+    → over (set out (at + i) (get_or bytes i 0)) (at + (i + 1)) (drop (i + 1) bytes) ≡ over out (at + i) (drop i bytes)
+unfolding over
+word_turn out bytes at i h =
+    let e : at + (i + 1) ≡ suc (at + i) = omega arith in
+    rw (e, add-one i) (ap (sets out (at + i)) (sym (drop-cons bytes i 0 h)))
+
+pub word_end : (out bytes : List ℕ) (at i : ℕ) → length bytes ≤ i → over out (at + i) (drop i bytes) ≡ out
+unfolding over
+word_end out bytes at i h = ap (sets out (at + i)) (drop_of_length-le bytes h)
 
 -- Pieces of k bytes each: one piece more.
 pub each_turn : (out : List ℕ) (at n k : ℕ) (chunk : ℕ → List ℕ) → ((i : ℕ) → i < n → length (chunk i) ≡ k)

@@ -1,24 +1,18 @@
 use Rattle.std.proofs.Common.{◌≡◌, sym, ◌∙◌}
-use Rattle.std.specs.Prelude.{Some, slice_get}
-use Rattle.store.specs.Walk.{records}
-use Rattle.store.proofs.Told.{told, no_part}
-use Rattle.store.proofs.HookupLaws.{passes-pass, read_none, read_some, hookup-no_end, hookup-no_first, hookup-no_second}
-use Rattle.store.proofs.HookupLaws.{first-unfit, second-unfit, both_fit}
+use Rattle.store.specs.Reading.{part}
+use Rattle.store.proofs.Told.{told}
+use Rattle.store.proofs.HookupLaws.{passes-pass, stands_before, reads_part}
+use Rattle.store.proofs.HookupLaws.{hookup-no_end, hookup-no-first, hookup-no-second, first-unfit, second-unfit, both_fit}
 use Rattle.store.proofs.call.hookup.Goals as goal
-use Rattle.store.proofs.call.hookup.Goals.{then-not-passes-via-then-not-passes}
-use Rattle.store.proofs.call.hookup.Goals.{then-not-passes-via-else-not-passes+then-not-passes-2}
-use Rattle.store.proofs.call.hookup.Goals.{In_ok-first, In_ok-second}
+use Rattle.store.proofs.call.hookup.Goals.{After-record-first, After-record-second}
+use Rattle.store.proofs.call.hookup.Goals.{then-end-i-via-then-end-i, then-end-i-via-else-end-i+then-end-j}
 
--- The first record stands there, and the second.
-first : (c : In_ok-first) → slice_get (records c.args.s.now) c.args.i ≡ Some c.in_ok-first.first.now
-first c =
-    read_some _ c.in_ok-end.ensures c.split_at_mut-front.ensures.front c.args.i c.record.result c.record.ensures
-    c.in_ok-first.ensures.ok_part
+-- The first record is record i, and the second is record j.
+first : (c : After-record-first) → c.record-first.result.now ≡ part c.args.s.now c.args.i
+first c = reads_part _ c.in_ok-end.ensures c.split_at_mut-front.ensures.front c.args.i c.record-first.ensures
 
-second : (c : In_ok-second) → slice_get (records c.args.s.now) c.args.j ≡ Some c.in_ok-second.second.now
-second c =
-    read_some _ c.in_ok-end.ensures c.split_at_mut-front.ensures.front c.args.j c.record-2.result c.record-2.ensures
-    c.in_ok-second.ensures.ok_part
+second : (c : After-record-second) → c.record-second.result.now ≡ part c.args.s.now c.args.j
+second c = reads_part _ c.in_ok-end.ensures c.split_at_mut-front.ensures.front c.args.j c.record-second.ensures
 
 pub returns-in_err-end-clause-result_value : goal.returns-in_err-end-clause-result_value
 returns-in_err-end-clause-result_value c =
@@ -27,81 +21,80 @@ returns-in_err-end-clause-result_value c =
 pub returns-in_err-end-clause-s_after : goal.returns-in_err-end-clause-s_after
 returns-in_err-end-clause-s_after c = (hookup-no_end _ _ _ c.in_err-end.ensures).1
 
-pub returns-in_err-first-clause-result_value : goal.returns-in_err-first-clause-result_value
-returns-in_err-first-clause-result_value c =
-    told c.from_residual-in_err-first.result _ c.from_residual-in_err-first.ensures.1
-    ∙ no_part c.record.result c.in_err-first.ensures.value
-    ∙ (hookup-no_first _ _ _ c.in_ok-end.ensures
-    (read_none _ c.in_ok-end.ensures c.split_at_mut-front.ensures.front c.args.i c.record.result c.record.ensures
-    c.in_err-first.ensures.ok_part)).0
+pub record-first-requires : goal.record-first-requires
+record-first-requires c =
+    stands_before _ c.in_ok-end.ensures c.split_at_mut-front.ensures.front c.args.i c.if-end-i.false
 
-pub returns-in_err-first-clause-s_after : goal.returns-in_err-first-clause-s_after
-returns-in_err-first-clause-s_after c =
-    sym c.split_at_mut-front.ensures.value
-    ∙ (hookup-no_first _ _ _ c.in_ok-end.ensures
-    (read_none _ c.in_ok-end.ensures c.split_at_mut-front.ensures.front c.args.i c.record.result c.record.ensures
-    c.in_err-first.ensures.ok_part)).1
+pub record-second-requires : goal.record-second-requires
+record-second-requires c =
+    stands_before _ c.in_ok-end.ensures c.split_at_mut-front.ensures.front c.args.j c.if-end-j.false
 
-pub returns-in_err-second-clause-result_value : goal.returns-in_err-second-clause-result_value
-returns-in_err-second-clause-result_value c =
-    told c.from_residual-in_err-second.result _ c.from_residual-in_err-second.ensures.1
-    ∙ no_part c.record-2.result c.in_err-second.ensures.value
-    ∙ (hookup-no_second _ _ _ c.in_ok-end.ensures (first (goal.at.returns-in_err-second-clause-result_value c).In_ok-first)
-    (read_none _ c.in_ok-end.ensures c.split_at_mut-front.ensures.front c.args.j c.record-2.result c.record-2.ensures
-    c.in_err-second.ensures.ok_part)).0
+pub returns-then-end-i-clause-result_value : goal.returns-then-end-i-clause-result_value
+returns-then-end-i-clause-result_value c =
+    elim c.then-end-i.branch [
+      | then-end-i-via-then-end-i w ↦ (hookup-no-first _ _ _ c.in_ok-end.ensures w.if-end-i.true).0
+      | then-end-i-via-else-end-i+then-end-j w ↦
+          (hookup-no-second _ _ _ c.in_ok-end.ensures w.if-end-i.false w.if-end-j.true).0
+    ]
 
-pub returns-in_err-second-clause-s_after : goal.returns-in_err-second-clause-s_after
-returns-in_err-second-clause-s_after c =
-    sym c.split_at_mut-front.ensures.value
-    ∙ (hookup-no_second _ _ _ c.in_ok-end.ensures (first (goal.at.returns-in_err-second-clause-s_after c).In_ok-first)
-    (read_none _ c.in_ok-end.ensures c.split_at_mut-front.ensures.front c.args.j c.record-2.result c.record-2.ensures
-    c.in_err-second.ensures.ok_part)).1
+pub returns-then-end-i-clause-s_after : goal.returns-then-end-i-clause-s_after
+returns-then-end-i-clause-s_after c =
+    elim c.then-end-i.branch [
+      | then-end-i-via-then-end-i w ↦ (hookup-no-first _ _ _ c.in_ok-end.ensures w.if-end-i.true).1
+      | then-end-i-via-else-end-i+then-end-j w ↦
+          (hookup-no-second _ _ _ c.in_ok-end.ensures w.if-end-i.false w.if-end-j.true).1
+    ]
 
 pub returns-then-not-passes-clause-result_value : goal.returns-then-not-passes-clause-result_value
 returns-then-not-passes-clause-result_value c =
-    let one = first (goal.at.returns-then-not-passes-clause-result_value c).In_ok-first in
-    let two = second (goal.at.returns-then-not-passes-clause-result_value c).In_ok-second in
-    elim c.then-not-passes.branch [
-      | then-not-passes-via-then-not-passes w ↦
-          (first-unfit _ _ _ c.in_ok-end.ensures one two (sym w.if-not-passes.true ∙ c.passes.ensures)).0
-      | then-not-passes-via-else-not-passes+then-not-passes-2 w ↦
-          (second-unfit _ _ _ c.in_ok-end.ensures one two (sym w.if-not-passes.false ∙ c.passes.ensures)
-          (sym w.if-not-passes-2.true ∙ w.passes-else-not-passes.ensures)).0
-    ]
+    (first-unfit _ _ _ c.in_ok-end.ensures c.if-end-i.false c.if-end-j.false
+    (first (goal.at.returns-then-not-passes-clause-result_value c).After-record-first)
+    (sym c.if-not-passes.true ∙ c.passes.ensures)).0
 
 pub returns-then-not-passes-clause-s_after : goal.returns-then-not-passes-clause-s_after
 returns-then-not-passes-clause-s_after c =
-    let one = first (goal.at.returns-then-not-passes-clause-s_after c).In_ok-first in
-    let two = second (goal.at.returns-then-not-passes-clause-s_after c).In_ok-second in
-    let same = sym c.split_at_mut-front.ensures.value in
-    elim c.then-not-passes.branch [
-      | then-not-passes-via-then-not-passes w ↦
-          w.s-is ∙ same ∙ (first-unfit _ _ _ c.in_ok-end.ensures one two (sym w.if-not-passes.true ∙ c.passes.ensures)).1
-      | then-not-passes-via-else-not-passes+then-not-passes-2 w ↦
-          w.s-is ∙ same
-          ∙ (second-unfit _ _ _ c.in_ok-end.ensures one two (sym w.if-not-passes.false ∙ c.passes.ensures)
-          (sym w.if-not-passes-2.true ∙ w.passes-else-not-passes.ensures)).1
-    ]
+    sym c.split_at_mut-front.ensures.value
+    ∙ (first-unfit _ _ _ c.in_ok-end.ensures c.if-end-i.false c.if-end-j.false
+    (first (goal.at.returns-then-not-passes-clause-s_after c).After-record-first)
+    (sym c.if-not-passes.true ∙ c.passes.ensures)).1
+
+pub returns-then-not-passes-2-clause-result_value : goal.returns-then-not-passes-2-clause-result_value
+returns-then-not-passes-2-clause-result_value c =
+    (second-unfit _ _ _ c.in_ok-end.ensures c.if-end-i.false c.if-end-j.false
+    (first (goal.at.returns-then-not-passes-2-clause-result_value c).After-record-first)
+    (second (goal.at.returns-then-not-passes-2-clause-result_value c).After-record-second)
+    (sym c.if-not-passes.false ∙ c.passes.ensures) (sym c.if-not-passes-2.true ∙ c.passes-2.ensures)).0
+
+pub returns-then-not-passes-2-clause-s_after : goal.returns-then-not-passes-2-clause-s_after
+returns-then-not-passes-2-clause-s_after c =
+    sym c.split_at_mut-front.ensures.value
+    ∙ (second-unfit _ _ _ c.in_ok-end.ensures c.if-end-i.false c.if-end-j.false
+    (first (goal.at.returns-then-not-passes-2-clause-s_after c).After-record-first)
+    (second (goal.at.returns-then-not-passes-2-clause-s_after c).After-record-second)
+    (sym c.if-not-passes.false ∙ c.passes.ensures) (sym c.if-not-passes-2.true ∙ c.passes-2.ensures)).1
 
 pub append_joined-requires-clause-a_passes : goal.append_joined-requires-clause-a_passes
 append_joined-requires-clause-a_passes c = passes-pass _ (sym c.if-not-passes.false ∙ c.passes.ensures)
 
 pub append_joined-requires-clause-b_passes : goal.append_joined-requires-clause-b_passes
-append_joined-requires-clause-b_passes c =
-    passes-pass _ (sym c.if-not-passes-2.false ∙ c.passes-else-not-passes.ensures)
+append_joined-requires-clause-b_passes c = passes-pass _ (sym c.if-not-passes-2.false ∙ c.passes-2.ensures)
 
-pub returns-clause-result_value : goal.returns-clause-result_value
-returns-clause-result_value c =
-    (both_fit _ _ _ c.in_ok-end.ensures (first (goal.at.returns-clause-result_value c).In_ok-first)
-    (second (goal.at.returns-clause-result_value c).In_ok-second) (sym c.if-not-passes.false ∙ c.passes.ensures)
+pub returns-else-not-passes-2-clause-result_value : goal.returns-else-not-passes-2-clause-result_value
+returns-else-not-passes-2-clause-result_value c =
+    (both_fit _ _ _ c.in_ok-end.ensures c.if-end-i.false c.if-end-j.false
+    (first (goal.at.returns-else-not-passes-2-clause-result_value c).After-record-first)
+    (second (goal.at.returns-else-not-passes-2-clause-result_value c).After-record-second)
+    (sym c.if-not-passes.false ∙ c.passes.ensures)
     c.split_at_mut-front.ensures.front c.split_at_mut-front.ensures.back
-    (sym c.if-not-passes-2.false ∙ c.passes-else-not-passes.ensures) _ _
+    (sym c.if-not-passes-2.false ∙ c.passes-2.ensures) _ _
     (c.append_joined.ensures.result_value, c.append_joined.ensures.back_after)).0
 
-pub returns-clause-s_after : goal.returns-clause-s_after
-returns-clause-s_after c =
-    (both_fit _ _ _ c.in_ok-end.ensures (first (goal.at.returns-clause-s_after c).In_ok-first)
-    (second (goal.at.returns-clause-s_after c).In_ok-second) (sym c.if-not-passes.false ∙ c.passes.ensures)
+pub returns-else-not-passes-2-clause-s_after : goal.returns-else-not-passes-2-clause-s_after
+returns-else-not-passes-2-clause-s_after c =
+    (both_fit _ _ _ c.in_ok-end.ensures c.if-end-i.false c.if-end-j.false
+    (first (goal.at.returns-else-not-passes-2-clause-s_after c).After-record-first)
+    (second (goal.at.returns-else-not-passes-2-clause-s_after c).After-record-second)
+    (sym c.if-not-passes.false ∙ c.passes.ensures)
     c.split_at_mut-front.ensures.front c.split_at_mut-front.ensures.back
-    (sym c.if-not-passes-2.false ∙ c.passes-else-not-passes.ensures) _ _
+    (sym c.if-not-passes-2.false ∙ c.passes-2.ensures) _ _
     (c.append_joined.ensures.result_value, c.append_joined.ensures.back_after)).1

@@ -1,10 +1,10 @@
-use Rattle.std.proofs.Common.{◌≡◌, ◌+◌, length, take}
+use Rattle.std.proofs.Common.{◌≡◌, length, take, drop}
 use mathlib.Core.List.{flatten}
 use Rattle.store.specs.Leading.{leading}
 use Rattle.store.proofs.record.extent.Given as goal
 
--- The records before it that are left make up for those that are passed.
-abbrev pub invariant-loop-before : goal.invariant-loop-before
-invariant-loop-before l =
-    l.place + length (flatten (take l.before-iterator.n (leading l.before-iterator.iter.rest.now)))
-    ≡ length (flatten (take l.i (leading l.s)))
+-- So many records are passed, and the place is behind them.
+abbrev pub invariant-loop : goal.invariant-loop
+invariant-loop l =
+    (leading l.records.rest.now ≡ drop l.counter (leading l.s))
+    × (l.place ≡ length (flatten (take l.counter (leading l.s))))

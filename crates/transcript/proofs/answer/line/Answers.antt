@@ -1,18 +1,44 @@
-use Rattle.std.proofs.Common.{◌≡◌, ℕ, List, []}
 use Rattle.report.specs.Line.{line}
 use Rattle.transcript.specs.Lines.{answer_line}
+use Rattle.transcript.specs.Told.{told_of}
 use Rattle.transcript.proofs.answer.line.Goals as goal
 
-pub returns-in-Ok-clause-value : goal.returns-in-Ok-clause-value
-unfolding answer_line
-returns-in-Ok-clause-value c = rw c.in-Ok.is c.numbered.ensures.value
+pub returns-in-Gives-clause-value : goal.returns-in-Gives-clause-value
+unfolding answer_line line told_of
+returns-in-Gives-clause-value c =
+    rw c.in-Gives.is (c.numbered.ensures.value)
 
-pub returns-in-Ok-clause-out_after : goal.returns-in-Ok-clause-out_after
-unfolding answer_line
-returns-in-Ok-clause-out_after c = rw c.in-Ok.is c.numbered.ensures.out_after
+pub returns-in-Gives-clause-out_after : goal.returns-in-Gives-clause-out_after
+unfolding answer_line line told_of
+returns-in-Gives-clause-out_after c =
+    rw c.in-Gives.is (c.numbered.ensures.out_after)
 
-pub returns-in-Err-clause-value : goal.returns-in-Err-clause-value
-returns-in-Err-clause-value c = rw c.in-Err.is (c.refused.ensures.value c.args.word.now)
+pub returns-in-Refused-clause-value : goal.returns-in-Refused-clause-value
+unfolding answer_line line told_of
+returns-in-Refused-clause-value c =
+    rw c.in-Refused.is (c.numbered-in-Refused.ensures.value)
 
-pub returns-in-Err-clause-out_after : goal.returns-in-Err-clause-out_after
-returns-in-Err-clause-out_after c = rw c.in-Err.is (c.refused.ensures.out_after c.args.word.now)
+pub returns-in-Refused-clause-out_after : goal.returns-in-Refused-clause-out_after
+unfolding answer_line line told_of
+returns-in-Refused-clause-out_after c =
+    rw c.in-Refused.is (c.numbered-in-Refused.ensures.out_after)
+
+pub returns-in-Clash-clause-value : goal.returns-in-Clash-clause-value
+unfolding answer_line line told_of
+returns-in-Clash-clause-value c =
+    rw c.in-Clash.is (c.numbered-in-Clash.ensures.value)
+
+pub returns-in-Clash-clause-out_after : goal.returns-in-Clash-clause-out_after
+unfolding answer_line line told_of
+returns-in-Clash-clause-out_after c =
+    rw c.in-Clash.is (c.numbered-in-Clash.ensures.out_after)
+
+pub returns-in-Breaks-clause-value : goal.returns-in-Breaks-clause-value
+unfolding answer_line line told_of
+returns-in-Breaks-clause-value c =
+    rw c.in-Breaks.is (c.violation.ensures.value)
+
+pub returns-in-Breaks-clause-out_after : goal.returns-in-Breaks-clause-out_after
+unfolding answer_line line told_of
+returns-in-Breaks-clause-out_after c =
+    rw c.in-Breaks.is (c.violation.ensures.out_after)

@@ -1,4 +1,4 @@
-use Rattle.std.proofs.Common.{refl, arith}
+use Rattle.std.proofs.Common.{refl, ◌∙◌, arith}
 use Rattle.script.specs.Answers.{operation_of}
 use Rattle.store.proofs.Readings.{part-within}
 use Rattle.transcript.specs.Turn.{turn}
@@ -15,7 +15,7 @@ pub returns-in-Count : goal.returns-in-Count
 unfolding turn operation_of
 returns-in-Count c =
     let line = c.line.ensures in
-    simp (c.in-Count.is, ← c.count.ensures)
+    simp (c.in-Count.is, ← (c.from.ensures ∙ c.count.ensures))
     record { value = line.value; out_after = line.out_after; shelf_after = refl }
 
 pub returns-in-Part : goal.returns-in-Part

@@ -1,9 +1,9 @@
-use Rattle.std.proofs.Common.{refl, arith}
-use Rattle.words.proofs.LaidLaws.{over-replaced}
+use Rattle.std.proofs.Common.{refl, sym, ◌∙◌, arith}
+use Rattle.words.proofs.LaidLaws.{word_turn, word_end}
 use Rattle.words.proofs.copy.lay.Goals as goal
 
+pub loop-i-preserved : goal.loop-i-preserved
+loop-i-preserved c = word_turn _ _ _ _ (omega arith) ∙ c.loop-i.invariant
+
 pub returns : goal.returns
-returns c =
-    let a = c.args in
-    let whole = c.copy_from_slice.ensures.after in
-    record { text = rw whole (over-replaced a.out.now a.at _ a.bytes.now (omega arith) c.requires); behind = refl }
+returns c = record { text = sym (word_end _ _ _ _ (omega arith)) ∙ c.loop-i.invariant; behind = refl }
