@@ -1,5 +1,6 @@
 /* The hookup bench, for a host program in C. Link target/staticlib/libhookup.a (made by `tools/build library`, x86-64).
- * docs/FORMAT.md has the record, the shelf and the script byte by byte. The figures of stack that were measured are of the older kit's build. */
+ * docs/FORMAT.md has the record, the shelf and the script byte by byte. The figures of stack that were measured are of the older kit's build.
+ * The library takes memcpy and memset from the host, and nothing else. */
 #ifndef HOOKUP_H
 #define HOOKUP_H
 

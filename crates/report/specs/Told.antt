@@ -1,4 +1,4 @@
--- What a line is told of, as a verdict.
+-- The verdict that a line tells, by the numbers that the code has of it.
 use Rattle.screening.specs.Answers.{number_of}
 use Rattle.restrictive.specs.Verdict.{Verdict, Violation, pass, refused, breaks}
 use Rattle.report.specs.declared.told.Numbers.{Numbers}

@@ -15,7 +15,7 @@ use Rattle.store.specs.Walk.{walk}
 use Rattle.store.specs.Leading.{leading}
 use Rattle.store.specs.declared.records.Records.{Records}
 use native.Mathlib.Omega.{arith}
-use lib.ListN.{length}
+use lib.ListN.{length, drop, length-drop}
 use Rattle.std.specs.Borrow.{Bor}
 use Rattle.store.specs.declared.answer.Refusal.{Refusal}
 use Rattle.restrictive.specs.declared.answer.Violation.{Violation}
@@ -39,13 +39,14 @@ pub told-failure : (r : Result ℕ Refusal) (f : Failure) → IsErrAnd r (λ e. 
 told-failure (Ok n) f h = absurd h
 told-failure (Err e) f h = h
 
--- A record that comes next, where one is left.
-pub next_there : (before after : Records) (r : Option (Bor (List ℕ)))
+-- The next record, where one is left behind the first k.
+pub next_there : (before after : Records) (r : Option (Bor (List ℕ))) (rs : List (List ℕ)) (k : ℕ)
     → YieldsFirstRef (λ (x : Records). leading x.rest.now) before r after
-    → 0 < length (leading before.rest.now)
+    → leading before.rest.now ≡ drop k rs
+    → k < length rs
     → IsSome r
-next_there before after (Some x) h l = refl
-next_there before after None h l = absurd (omega (arith, ap length h.0))
+next_there before after (Some x) rs k h e l = refl
+next_there before after None rs k h e l = absurd (omega (arith, ap length h.0, ap length e, length-drop k rs))
 
 -- What a walk says that ends without an end record.
 pub endless : (s : List ℕ) (r : Result End found.NoEnd) → ((e : End) → r ≡ Ok e → ⊥) → Finds r s → walk s ≡ none

@@ -1,4 +1,4 @@
--- What the line of an answer is told of, as an answer.
+-- The answer that a line tells, by the numbers that the code has of it.
 use Rattle.report.specs.Told.{numbers_of}
 use Rattle.store.specs.Answer.{Answer, gives, refused, clash, breaks}
 use Rattle.transcript.specs.declared.told.Told.{Told}

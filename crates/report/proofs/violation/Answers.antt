@@ -1,10 +1,8 @@
 use Rattle.report.specs.Told.{numbers_of}
 use Rattle.report.proofs.violation.Goals as goal
 
-pub returns-clause-value : goal.returns-clause-value
+pub returns : goal.returns
 unfolding numbers_of
-returns-clause-value c = c.break_line.ensures.value c.args.n.level
-
-pub returns-clause-out_after : goal.returns-clause-out_after
-unfolding numbers_of
-returns-clause-out_after c = c.break_line.ensures.out_after c.args.n.level
+returns c =
+    let l = c.break_line.ensures in
+    record { value = l.value c.args.n.level; out_after = l.out_after c.args.n.level }
