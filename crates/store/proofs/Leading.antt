@@ -11,13 +11,14 @@ use native.Mathlib.Omega.{arith}
 use lib.ListN.{length, take, drop, get_or, length-drop, length-append, take-append-drop}
 use lib.Seq.{drop-cons, take-suc, drop-drop, length-take-le, take-append_seam, drop-append_seam}
 use borrow.Author.Tests.{le-ltb}
-use Rattle.std.specs.Prelude.{Some, None}
+use Rattle.std.specs.Prelude.{Some, None, slice_get}
+use Rattle.std.proofs.lemmas.Option.{slice_get-get_or}
 use Rattle.words.specs.LittleEndian.{number}
 use Rattle.words.proofs.LittleEndian.{number-inside}
 use Rattle.part.specs.Record.{body_length, kind}
 use Rattle.store.specs.Walk.{Front, end_record, record_of, neither, front, walk_at_most, walk, records}
 use Rattle.store.specs.Leading.{ends_there, size_there, leading_at_most, leading}
-use Rattle.store.specs.Reading.{place}
+use Rattle.store.specs.Reading.{place, part}
 use Rattle.store.specs.Demand.{Begins}
 use Rattle.store.specs.Found.{Ends}
 use Rattle.store.proofs.Fronts.{record-whole, record-no_end}
@@ -146,12 +147,27 @@ pub length-none : {rs : List (List ℕ)} → rs ≡ [] → (length rs ≡ 0) × 
 unfolding flatten
 length-none e = (ap length e, ap (λ (qs : List (List ℕ)). length (flatten qs)) e)
 
+-- The same of the first n or m.
+pub length-taken : {rs : List (List ℕ)} {r : List ℕ} {qs : List (List ℕ)} (n m : ℕ) → rs ≡ r ∷ qs → m + 1 ≡ n
+    → length (flatten (take n rs)) ≡ length r + length (flatten (take m qs))
+length-taken {rs} {r} {qs} n m e h =
+    let next : n ≡ suc m = omega arith in
+    (length-first (rw (next, e) refl)).1
+
+pub length-none_taken : (n : ℕ) (rs : List (List ℕ)) → (0 < n → rs ≡ []) → length (flatten (take n rs)) ≡ 0
+unfolding flatten
+length-none_taken zero rs h = refl
+length-none_taken (suc n) rs h = (length-none (ap (take (suc n)) (h (omega arith)))).1
+
 pub taken-within : (n : ℕ) (rs : List (List ℕ)) → length (flatten (take n rs)) ≤ length (flatten rs)
 unfolding flatten
 taken-within zero rs = omega arith
 taken-within (suc n) [] = omega arith
 taken-within (suc n) (r ∷ rs) =
     omega (arith, taken-within n rs, length-append r (flatten (take n rs)), length-append r (flatten rs))
+
+pub leading-taken : (n : ℕ) (s : List ℕ) → length (flatten (take n (leading s))) ≤ length s
+leading-taken n s = omega (arith, taken-within n (leading s), leading-within s)
 
 -- Behind the first k of some records stands record k, and behind it the others.
 pub passed : (rs : List (List ℕ)) {qs : List (List ℕ)} {r : List ℕ} (k : ℕ) → k < length rs → drop k rs ≡ r ∷ qs
@@ -266,6 +282,12 @@ module _ (s : List ℕ) (i : ℕ) (e : walk s ≡ some (records s)) where
   unfolding place
   place-leading =
       ap (λ (rs : List (List ℕ)). length (flatten (take i rs))) (sym (records-leading s (records s) e))
+
+  pub part-leading : i < length (records s) → slice_get (leading s) i ≡ Some (part s i)
+  unfolding part
+  part-leading l =
+      ap (λ (rs : List (List ℕ)). slice_get rs i) (records-leading s (records s) e)
+      ∙ slice_get-get_or (records s) i [] l
 
 -- ---- before the end record
 
